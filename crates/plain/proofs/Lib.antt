@@ -1,0 +1,10 @@
+pub mod Logic
+pub mod Table
+pub mod Encode
+pub mod Utf8
+pub mod Search
+pub mod Count
+pub mod Text
+pub mod Place
+pub mod Edit
+pub mod Outcome

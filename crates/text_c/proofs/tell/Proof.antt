@@ -1,0 +1,34 @@
+-- `text_c::tell` meets its contract: what `ask` ensures, in each of the two cases.
+use mathlib.Core.Path.{sym, ap, _∙_}
+use borrow.Author.Needs.{needs}
+use Rattle.answer.specs.Answers.{number}
+use Rattle.text_c.specs.Told.{code, written}
+use Rattle.text_c.proofs.tell.Statement.{statement}
+use Rattle.text_c.proofs.tell.Tie as tie
+
+ask-requires : tie.Need-ask-requires
+ask-requires c κs = search needs
+
+enum-known-n : tie.Need-enum-known-n
+enum-known-n c = search needs
+
+enum-known-r : tie.Need-enum-known-r
+enum-known-r c = search needs
+
+number-of-requires : tie.Need-number-of-requires
+number-of-requires c κs = search needs
+
+returns : tie.Need-returns
+unfolding code written
+returns c =
+    let o = sym (ap number (c .before .n .given .1)) ∙ c .before .before .before .ask .ensures in
+    (ap code o, ap (written (c .before .before .before .before .before .args .out .now)) o)
+
+returns-2 : tie.Need-returns-2
+unfolding code written
+returns-2 c =
+    let o = sym (ap number (c .before .before .r .given .1)) ∙ c .before .before .before .before .ask .ensures in
+    (c .number-of .ensures ∙ ap code o, ap (written (c .before .before .before .before .before .before .args .out .now)) o)
+
+pub tell-spec : {M : Type 1} → statement M
+tell-spec = tie.close (tie.spec ask-requires enum-known-n enum-known-r number-of-requires returns returns-2)

@@ -1,0 +1,16 @@
+#!/bin/sh
+# bench.sh   measures the proved library's counts against plain Rust loops.
+# TEXT_C_DIR=FOLDER  link the libtext_c.a there instead of proving and building it
+set -eu
+root=$(cd "$(dirname "$0")/.." && pwd)
+[ -z "${TEXT_C_DIR-}" ] || TEXT_C_DIR=$(cd "$TEXT_C_DIR" && pwd)
+
+cd "$root"
+if [ -z "${TEXT_C_DIR-}" ]; then
+    rt staticlib text_c
+    TEXT_C_DIR=$root/target/staticlib
+fi
+export TEXT_C_DIR
+
+CARGO_TARGET_DIR=target/bench cargo build --quiet --release --offline --manifest-path tests/bench/Cargo.toml
+exec target/bench/release/bench

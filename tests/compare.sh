@@ -1,0 +1,54 @@
+#!/bin/sh
+# compare.sh [--short | --record FILE]   compares the proved library with the source crate.
+#   no word: every comparison (a minute or so). --short: a few seconds. --record FILE: writes a sample of the source's answers.
+# ORACLE=FOLDER      the folder that holds prepare.sh (default: ../shared/oracle beside the repository)
+# TEXT_C_DIR=FOLDER  link the libtext_c.a there instead of proving and building it
+set -eu
+root=$(cd "$(dirname "$0")/.." && pwd)
+oracle=${ORACLE:-$root/../shared/oracle}
+
+skip() {
+    echo "compare: skipped, $1"
+    exit 0
+}
+
+[ -f "$oracle/prepare.sh" ] || skip "as the source crate is not at ../shared/oracle or \$ORACLE"
+if ! dpkg -L librust-smallvec-dev >/dev/null 2>&1; then
+    apt-get install -y librust-smallvec-dev >/dev/null 2>&1 || skip "as librust-smallvec-dev cannot be installed"
+fi
+
+# What the caller named is meant from the caller's folder.
+oracle=$(cd "$oracle" && pwd)
+[ -z "${TEXT_C_DIR-}" ] || TEXT_C_DIR=$(cd "$TEXT_C_DIR" && pwd)
+if [ "${1-}" = --record ] && [ $# -eq 2 ]; then
+    case $2 in
+    /*) ;;
+    *) set -- --record "$PWD/$2" ;;
+    esac
+fi
+
+cd "$root"
+mkdir -p target
+
+# Laid out anew each time, but put in place only if it changed: cargo would build it again.
+bash "$oracle/prepare.sh" target/oracle.new >target/oracle.log
+if diff -rq -x EDITS.diff target/oracle.new target/oracle >/dev/null 2>&1; then
+    rm -rf target/oracle.new
+else
+    rm -rf target/oracle
+    mv target/oracle.new target/oracle
+fi
+
+if [ -z "${TEXT_C_DIR-}" ]; then
+    rt staticlib text_c
+    TEXT_C_DIR=$root/target/staticlib
+fi
+export TEXT_C_DIR
+
+# The source crate's warnings go to the log; they are not ours to mend.
+CARGO_TARGET_DIR=target/compare cargo build --quiet --release --offline \
+    --config target/oracle/.cargo/config.toml --manifest-path tests/compare/Cargo.toml 2>target/compare.log || {
+    cat target/compare.log >&2
+    exit 1
+}
+exec target/compare/release/compare "$@"

@@ -1,0 +1,65 @@
+//! Compares the proved library with the source crate.
+//!
+//! compare               the full run
+//! compare --short       the same groups, of smaller extent
+//! compare --record FILE writes a sample of the source's answers
+
+mod calls;
+mod groups;
+mod oracle;
+mod ours;
+mod record;
+mod tally;
+mod texts;
+
+use std::process::ExitCode;
+
+use groups::Extent;
+
+const FULL: Extent = Extent {
+    byte_string: 6,
+    char_string: 6,
+    panic_string: 4,
+    any_string: 3,
+    random_texts: 3_000,
+    random_strings: 20_000,
+};
+
+const SHORT: Extent = Extent {
+    byte_string: 4,
+    char_string: 4,
+    panic_string: 3,
+    any_string: 2,
+    random_texts: 100,
+    random_strings: 500,
+};
+
+fn main() -> ExitCode {
+    let words: Vec<String> = std::env::args().skip(1).collect();
+    let words: Vec<&str> = words.iter().map(String::as_str).collect();
+    match words[..] {
+        [] => compare(&FULL),
+        ["--short"] => compare(&SHORT),
+        ["--record", path] => match record::write(path) {
+            Ok(()) => ExitCode::SUCCESS,
+            Err(error) => {
+                eprintln!("{path}: {error}");
+                ExitCode::FAILURE
+            }
+        },
+        _ => {
+            eprintln!("compare [--short | --record FILE]");
+            ExitCode::from(2)
+        }
+    }
+}
+
+fn compare(extent: &Extent) -> ExitCode {
+    let mut totals = tally::Totals::default();
+    groups::run(extent, &mut totals);
+    if totals.close() {
+        ExitCode::SUCCESS
+    } else {
+        ExitCode::FAILURE
+    }
+}
