@@ -101,6 +101,12 @@ start-le (x ∷ s) l = go (eqb l 0) (start-le s (l - bit (ends x s)))
     go true h = omega arith
     go false h = omega arith
 
+-- a line index above the number of breaks means the end
+pub start-past : (s : List ℕ) (l : ℕ) → breaks s < l → lineStart s l ≡ length s
+unfolding breaks
+start-past [] l h = unfold lineStart in refl
+start-past (x ∷ s) l h = line-step x s l (omega arith) ∙ ap suc (start-past s (l - bit (ends x s)) (omega (arith, bit-le (ends x s))))
+
 pub line-behind : (s : List ℕ) (i : ℕ) → i < length s → ends (getD s i 0) (drop (suc i) s) ≡ true → (0 < lineAt s (suc i)) × (lineStart s (lineAt s (suc i)) ≡ suc i)
 unfolding lineAt
 line-behind [] i h e = absurd (not-suc-le-zero h)

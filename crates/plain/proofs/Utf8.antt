@@ -121,6 +121,12 @@ unfolding validUtf8 due
 none-due lo hi [] = refl
 none-due lo hi (b ∷ bs) = refl
 
+-- an ASCII byte with none due: none is due behind it
+pub due-ascii : (lo hi b : ℕ) (bs : List ℕ) → b < 0x80 → due 0 lo hi (b ∷ bs) ≡ due 0 lo hi bs
+unfolding rowOf
+due-ascii lo hi b bs h =
+    none-due lo hi (b ∷ bs) ∙ first-due 1 b bs (class-1 b (omega arith)) ∙ none-due 0x80 0xBF bs ∙ sym (none-due lo hi bs)
+
 after : (v c : ℕ) (bs : List ℕ) → v ≡ c → decodeFrom 0 v bs ≡ c ∷ decode bs
 unfolding decode decodeFrom
 after v c [] e = ap (λ (x : ℕ). x ∷ []) e

@@ -1,15 +1,31 @@
 // Chars: a char is counted at its first byte.
+use crate::parts::stop;
+use crate::parts::sum_of;
 ghost use mathlib.Core.Path.{_≡_};
-ghost use Prim.Native.Nat.{_≤_};
-ghost use lib.ListN.{length, take};
+ghost use Prim.Native.Nat.{_+_, _-_, _≤_};
+ghost use lib.ListN.{length, take, drop};
 ghost use Rattle.plain.specs.Count.{countIf};
 ghost use Rattle.plain.specs.Place.{isStart, startChars, isBoundary, floorOf, placeOf};
 
 // How many chars begin at a byte: 1 or 0.
-fn begun(b: u8) -> usize
+fn begun(b: u8) -> u8
     ensures { λ r. ⌜ (r ≡ startChars b) × (r ≤ 1) ⌝ }
 {
-    utf8::starts(b) as usize
+    utf8::starts(b) as u8
+}
+
+// How many chars begin in a part.
+fn count_part(text: &[u8], a: usize, e: usize) -> u8
+    requires { ⌜ (a ≤ e) × (e ≤ length (now text)) × (e ≤ a + 224) ⌝ }
+    ensures { λ r. ⌜ (r + countIf isStart (drop e (now (text .entry))) ≡ countIf isStart (drop a (now (text .entry)))) × (r ≤ e - a) ⌝ }
+{
+    let mut n: u8 = 0;
+    let mut i = a;
+    while i < e {
+        n += begun(text[i]);
+        i += 1;
+    }
+    n
 }
 
 // How many chars there are.
@@ -19,8 +35,9 @@ pub fn count(text: &[u8]) -> usize
     let mut n = 0;
     let mut i = 0;
     while i < text.len() {
-        n += begun(text[i]);
-        i += 1;
+        let e = stop(i, text.len());
+        n += sum_of(count_part(text, i, e));
+        i = e;
     }
     n
 }
@@ -67,7 +84,7 @@ pub fn to_byte_idx(text: &[u8], char_idx: usize) -> usize
     let mut left = char_idx;
     let mut i = 0;
     while i < text.len() {
-        let k = begun(text[i]);
+        let k = sum_of(begun(text[i]));
         if left < k {
             return i;
         }

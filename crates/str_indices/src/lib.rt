@@ -2,4 +2,5 @@
 // bytes: where these are no well-formed text the definitions still say what is counted. `str_utils` refuses such bytes.
 pub mod chars;
 pub mod lines_crlf;
+mod parts;
 pub mod utf16;

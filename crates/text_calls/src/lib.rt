@@ -1,5 +1,5 @@
-// Every call of the text layer by name, with one form of question and answer: what the replayed sample and the programs in C and Rust
-// ask through. A truth is told as 1 or 0, a part by its length.
+// Every call of the text layer by its number, with one form of question and answer: what the replayed sample and the programs in C
+// and Rust ask through. A truth is told as 1 or 0, a part by its length.
 use answer::Number;
 use answer::Refusal;
 use answer::Truth;
@@ -9,7 +9,7 @@ ghost use Rattle.plain.specs.Place.{bytes};
 ghost use Rattle.plain.specs.Count.{trimmed};
 ghost use Rattle.answer.specs.Answers.{number, truth};
 ghost use Rattle.str_utils.specs.Helpers.{ofText};
-ghost use Rattle.text_calls.specs.Asked.{counted, asked, seamAt};
+ghost use Rattle.text_calls.specs.Asked.{counted, seamAt, asked, askedBy};
 
 pub enum Call {
     IsBreak,
@@ -32,7 +32,33 @@ pub enum Call {
     LastLineStartByteIdx,
     TrimLineBreak,
     EndsWithLineBreak,
+    Valid,
 }
+
+// The calls in the order of their numbers, from 1.
+const CALLS: [Call; 21] = [
+    Call::IsBreak,
+    Call::SeamIsBreak,
+    Call::PrevBreak,
+    Call::NextBreak,
+    Call::NearestInternalBreak,
+    Call::FindGoodSplit,
+    Call::CountChars,
+    Call::ByteToCharIdx,
+    Call::CharToByteIdx,
+    Call::CountUtf16Surrogates,
+    Call::CountLineBreaks,
+    Call::ByteToLineIdx,
+    Call::LineToByteIdx,
+    Call::CharToLineIdx,
+    Call::LineToCharIdx,
+    Call::ByteToUtf16SurrogateIdx,
+    Call::Utf16CodeUnitToCharIdx,
+    Call::LastLineStartByteIdx,
+    Call::TrimLineBreak,
+    Call::EndsWithLineBreak,
+    Call::Valid,
+];
 
 // A truth as 1 or 0.
 fn truth_as_number(a: Truth) -> Number
@@ -44,12 +70,12 @@ fn truth_as_number(a: Truth) -> Number
     }
 }
 
-// `seam_is_break` of a text cut at an index; past the end, 3.
+// `seam_is_break` of a text cut at an index. Past the end the right side is empty.
 fn seam_at(index: usize, text: &[u8]) -> Number
     ensures { λ r. ⌜ number r ≡ seamAt index (now (text .entry)) ⌝ }
 {
     if text.len() < index {
-        return Number::Refused(Refusal::Place);
+        return Number::Refused(Refusal::Side);
     }
     truth_as_number(crlf::seam_is_break(&text[..index], &text[index..]))
 }
@@ -64,7 +90,7 @@ fn trimmed_len(text: &[u8]) -> Number
     }
 }
 
-pub fn ask(call: Call, index: usize, bias_left: bool, text: &[u8]) -> Number
+fn ask(call: Call, index: usize, bias_left: bool, text: &[u8]) -> Number
     ensures { λ r. ⌜ number r ≡ asked call index «bias_left» (now (text .entry)) ⌝ }
 {
     match call {
@@ -88,5 +114,21 @@ pub fn ask(call: Call, index: usize, bias_left: bool, text: &[u8]) -> Number
         Call::LastLineStartByteIdx => str_utils::last_line_start_byte_idx(text),
         Call::TrimLineBreak => trimmed_len(text),
         Call::EndsWithLineBreak => truth_as_number(str_utils::ends_with_line_break(text)),
+        Call::Valid => Number::Is(utf8::valid(text) as usize),
     }
+}
+
+// The answer of the call with a number; a number that names none is refused by 10.
+pub fn ask_by(call: u8, index: usize, bias_left: bool, text: &[u8]) -> Number
+    ensures { λ r. ⌜ number r ≡ askedBy call index «bias_left» (now (text .entry)) ⌝ }
+{
+    if call == 0 {
+        return Number::Refused(Refusal::Field);
+    }
+    if 21 < call {
+        return Number::Refused(Refusal::Field);
+    }
+    let calls = CALLS;
+    let k = (call - 1) as usize;
+    ask(calls[k], index, bias_left, text)
 }

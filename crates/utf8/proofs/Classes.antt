@@ -10,7 +10,8 @@ use lib.Dec.{T, eqb, eqb→eq, eqb·suc-zero}
 use lib.ListN.{length, getD, drop, drop-of-length-le}
 use lib.Seq.{drop-cons}
 use Rattle.plain.specs.Utf8.{Row, within, classOf, rowOf, due}
-use Rattle.plain.proofs.Table.{within-yes, within-low, within-high}
+use Rattle.plain.proofs.Table.{within-yes, within-high}
+use Rattle.plain.proofs.Utf8.{due-ascii}
 
 -- ── the rule ──
 
@@ -89,10 +90,20 @@ unfolding due
 due-next zero lo hi b p h k bs = absurd (not-suc-le-zero p)
 due-next (suc n) lo hi b p h k bs = rw (sub-one, within-yes lo hi b h k)
 
--- ── a turn of the loop, and its end ──
+-- ── many bytes ──
 
 pub due-turn : (n lo hi : ℕ) (s : List ℕ) (i : ℕ) → i < length s → due n lo hi (getD s i 0 ∷ drop (i + 1) s) ≡ due n lo hi (drop i s)
 due-turn n lo hi s i h = rw (add-one, ← drop-cons s i 0)
+
+-- ASCII bytes with none due
+pub due-skip : (n lo hi : ℕ) (s : List ℕ) (a e k : ℕ) → n ≡ 0 → e ≡ a + k → e ≤ length s → ((i : ℕ) → a ≤ i → i < e → getD s i 0 < 0x80)
+    → due n lo hi (drop e s) ≡ due n lo hi (drop a s)
+due-skip n lo hi s a e zero z q h low = let y : e ≡ a = omega arith in ap (λ (j : ℕ). due n lo hi (drop j s)) y
+due-skip n lo hi s a e (suc k) z q h low =
+    let turn = due-turn n lo hi s a (omega arith) in
+    let one = due-ascii lo hi (getD s a 0) (drop (a + 1) s) (low a (omega arith) (omega arith)) in
+    due-skip n lo hi s (a + 1) e k z (omega arith) h (λ i g l. low i (omega arith) l)
+    ∙ sym (ap (λ (m : ℕ). due m lo hi (getD s a 0 ∷ drop (a + 1) s)) z ∙ one ∙ ap (λ (m : ℕ). due m lo hi (drop (a + 1) s)) (sym z)) ∙ turn
 
 pub due-none : (n lo hi : ℕ) (s : List ℕ) (i : ℕ) → length s ≤ i → eqb n 0 ≡ due n lo hi (drop i s)
 unfolding due

@@ -5,8 +5,9 @@ use class::CLASS;
 pub use class::class_of;
 ghost use mathlib.Core.Path.{_≡_};
 ghost use mathlib.Core.List.{List, _∷_};
-ghost use Prim.Native.Nat.{ℕ, _<_};
-ghost use lib.ListN.{getD};
+ghost use mathlib.Core.Bool.{true};
+ghost use Prim.Native.Nat.{ℕ, _≤_, _<_};
+ghost use lib.ListN.{length, getD, drop};
 ghost use Rattle.plain.specs.Utf8.{classOf, rowOf, due, validUtf8};
 ghost use Rattle.plain.specs.Place.{isStart};
 
@@ -107,6 +108,64 @@ fn step(t: &[u8; 256], d: Due, b: u8) -> Due
     }
 }
 
+// What is due behind the bytes from a up to e, byte by byte.
+fn run(t: &[u8; 256], d: Due, text: &[u8], a: usize, e: usize) -> Due
+    requires { ⌜ ((k : ℕ) → k < 256 → getD (now t) k 0 ≡ classOf k) ⌝ }
+    requires { ⌜ (a ≤ e) × (e ≤ length (now text)) ⌝ }
+    ensures { λ r. ⌜ due (r .more) (r .low) (r .high) (drop e (now (text .entry))) ≡ due (d .more) (d .low) (d .high) (drop a (now (text .entry))) ⌝ }
+{
+    let mut now = d;
+    let mut i = a;
+    while i < e {
+        now = step(t, now, text[i]);
+        i += 1;
+    }
+    now
+}
+
+fn higher(a: u8, b: u8) -> u8
+    ensures { λ r. ⌜ (a ≤ r) × (b ≤ r) ⌝ }
+{
+    if a < b { b } else { a }
+}
+
+// Whether all bytes from a up to e are ASCII: whether the highest is. Without a branch in the loop, so that it vectorises.
+fn ascii(text: &[u8], a: usize, e: usize) -> bool
+    requires { ⌜ (a ≤ e) × (e ≤ length (now text)) ⌝ }
+    ensures { λ r. ⌜ (r ≡ true → (k : ℕ) → a ≤ k → k < e → getD (now (text .entry)) k 0 < 0x80) ⌝ }
+{
+    let mut high: u8 = 0;
+    let mut i = a;
+    while i < e {
+        high = higher(high, text[i]);
+        i += 1;
+    }
+    high < 0x80
+}
+
+// What is due behind a part: where nothing is due before it and it is all ASCII, nothing is due behind it.
+fn part(t: &[u8; 256], d: Due, text: &[u8], a: usize, e: usize) -> Due
+    requires { ⌜ ((k : ℕ) → k < 256 → getD (now t) k 0 ≡ classOf k) ⌝ }
+    requires { ⌜ (a ≤ e) × (e ≤ length (now text)) ⌝ }
+    ensures { λ r. ⌜ due (r .more) (r .low) (r .high) (drop e (now (text .entry))) ≡ due (d .more) (d .low) (d .high) (drop a (now (text .entry))) ⌝ }
+{
+    let n = d.more;
+    if n == 0 {
+        if ascii(text, a, e) {
+            return d;
+        }
+    }
+    run(t, d, text, a, e)
+}
+
+// Where the part that begins at i ends.
+fn stop(i: usize, end: usize) -> usize
+    requires { ⌜ i < end ⌝ }
+    ensures { λ r. ⌜ (i < r) × (r ≤ end) ⌝ }
+{
+    if end - i < 128 { end } else { i + 128 }
+}
+
 // Whether the bytes are well-formed UTF-8.
 pub fn valid(text: &[u8]) -> bool
     ensures { λ r. ⌜ r ≡ validUtf8 (now (text .entry)) ⌝ }
@@ -119,8 +178,9 @@ pub fn valid(text: &[u8]) -> bool
     };
     let mut i = 0;
     while i < text.len() {
-        d = step(&t, d, text[i]);
-        i += 1;
+        let e = stop(i, text.len());
+        d = part(&t, d, text, i, e);
+        i = e;
     }
     d.more == 0
 }

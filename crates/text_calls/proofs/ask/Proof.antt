@@ -1,9 +1,10 @@
 -- `text_calls::ask` meets its contract: in each arm, what the call that it makes ensures.
 use mathlib.Core.Path.{ap, _∙_}
 use borrow.Author.Needs.{needs}
+use Rattle.plain.specs.Outcome.{Outcome.value}
 use Rattle.text_calls.specs.Asked.{counted}
-use Rattle.text_calls.specs.declared.Call.the-variants.{IsBreak, SeamIsBreak, PrevBreak, NextBreak, NearestInternalBreak, FindGoodSplit, CountChars, ByteToCharIdx, CharToByteIdx, CountUtf16Surrogates, CountLineBreaks, ByteToLineIdx, LineToByteIdx, CharToLineIdx, LineToCharIdx, ByteToUtf16SurrogateIdx, Utf16CodeUnitToCharIdx, LastLineStartByteIdx, TrimLineBreak, EndsWithLineBreak}
-use Rattle.text_calls.proofs.Laws.{by-call}
+use Rattle.text_calls.specs.declared.Call.the-variants.{IsBreak, SeamIsBreak, PrevBreak, NextBreak, NearestInternalBreak, FindGoodSplit, CountChars, ByteToCharIdx, CharToByteIdx, CountUtf16Surrogates, CountLineBreaks, ByteToLineIdx, LineToByteIdx, CharToLineIdx, LineToCharIdx, ByteToUtf16SurrogateIdx, Utf16CodeUnitToCharIdx, LastLineStartByteIdx, TrimLineBreak, EndsWithLineBreak, Valid}
+use Rattle.text_calls.proofs.Laws.{by-call, truth-is}
 use Rattle.text_calls.proofs.ask.Statement.{statement}
 use Rattle.text_calls.proofs.ask.Tie as tie
 
@@ -133,6 +134,15 @@ ends-with-line-break-requires c κs = search needs
 truth-as-number-requires-2 : tie.Need-truth-as-number-requires-2
 truth-as-number-requires-2 c κs = search needs
 
+enum-told-21 : tie.Need-enum-told-21
+enum-told-21 c = search needs
+
+valid-requires : tie.Need-valid-requires
+valid-requires c κs = search needs
+
+cast-t9 : tie.Need-cast-t9
+cast-t9 c = search needs
+
 returns : tie.Need-returns
 returns c = by-call _ IsBreak _ _ _ _ (c .before .before .enum-told .given .1) (c .truth-as-number .ensures ∙ ap counted (c .before .is-break .ensures))
 
@@ -193,6 +203,9 @@ returns-19 c = by-call _ TrimLineBreak _ _ _ _ (c .before .enum-told19 .given .1
 returns-20 : tie.Need-returns-20
 returns-20 c = by-call _ EndsWithLineBreak _ _ _ _ (c .before .before .enum-told20 .given .1) (c .truth-as-number2 .ensures ∙ ap counted (c .before .ends-with-line-break .ensures))
 
+returns-21 : tie.Need-returns-21
+returns-21 c = by-call _ Valid _ _ _ _ (c .before .enum-told21 .given .1) (ap value (truth-is _ _ (c .valid .ensures)))
+
 pub ask-spec : {M : Type 1} → statement M
 ask-spec =
     tie.close
@@ -239,6 +252,9 @@ ask-spec =
     enum-told-20
     ends-with-line-break-requires
     truth-as-number-requires-2
+    enum-told-21
+    valid-requires
+    cast-t9
     returns
     returns-2
     returns-3
@@ -258,4 +274,5 @@ ask-spec =
     returns-17
     returns-18
     returns-19
-    returns-20)
+    returns-20
+    returns-21)

@@ -1,5 +1,5 @@
 -- `text_calls::truth_as_number` meets its contract: a case for a case.
-use mathlib.Core.Path.{sym, ap, _∙_}
+use mathlib.Core.Path.{refl, sym, ap, _∙_}
 use borrow.Author.Needs.{needs}
 use Rattle.plain.specs.Outcome.{Outcome.value}
 use Rattle.answer.specs.Answers.{truth}
@@ -19,7 +19,7 @@ enum-known-a-2 : tie.Need-enum-known-a-2
 enum-known-a-2 c = search needs
 
 returns : tie.Need-returns
-returns c = ap value (truth-is (c .before .a .given .0 .0)) ∙ sym (ap (λ (a : Truth). counted (truth a)) (c .before .a .given .1))
+returns c = ap value (truth-is (c .before .a .given .0 .0) _ refl) ∙ sym (ap (λ (a : Truth). counted (truth a)) (c .before .a .given .1))
 
 returns-2 : tie.Need-returns-2
 returns-2 c = sym (ap (λ (a : Truth). counted (truth a)) (c .before .a2 .given .1))

@@ -1,12 +1,10 @@
 -- `utf8::valid` meets its contract. The loop's invariant: what is due of the bytes still to come is what was due of all of them.
-use mathlib.Core.Path.{_≡_, refl, sym, ap, _∙_}
-use Prim.Native.Nat.{ℕ, _+_, _-_, _≤_, _<_}
+use mathlib.Core.Path.{_≡_, refl, _∙_}
+use Prim.Native.Nat.{_-_, _≤_}
 use native.Mathlib.Omega.{arith}
-use native.Mathlib.Numerals.{add-one}
-use borrow.Author.Needs.{needs}
 use lib.ListN.{length, drop}
 use Rattle.plain.specs.Utf8.{due, validUtf8}
-use Rattle.utf8.proofs.Classes.{classes, class-at, due-turn, due-none}
+use Rattle.utf8.proofs.Classes.{classes, class-at, due-none}
 use Rattle.utf8.proofs.valid.Statement.{statement}
 use Rattle.utf8.proofs.valid.Tie as tie
 
@@ -20,24 +18,18 @@ loop-holds : tie.Need-loop-holds Inv-loop μ-loop
 unfolding validUtf8
 loop-holds c = (omega arith, refl)
 
-shared-slice-read-step : tie.Need-shared-slice-read-step Inv-loop μ-loop
-shared-slice-read-step c = omega arith
+stop-requires : tie.Need-stop-requires Inv-loop μ-loop
+stop-requires c κs = omega arith
 
-step-requires : tie.Need-step-requires Inv-loop μ-loop
+part-requires : tie.Need-part-requires Inv-loop μ-loop
 unfolding classes
-step-requires c κs = class-at
-
-add-i : tie.Need-add-i Inv-loop μ-loop
-add-i c = omega arith
+part-requires c κs = (class-at, (omega arith, omega arith))
 
 loop-less : tie.Need-loop-less Inv-loop μ-loop
 loop-less c = omega arith
 
 loop-again : tie.Need-loop-again Inv-loop μ-loop
-loop-again c =
-    let at-loop = c .before .before .before .before in
-    let text = at-loop .before .before .args .text .now in
-    (omega arith, c .step .ensures (drop (at-loop .loop .i + 1) text) ∙ due-turn _ _ _ text (at-loop .loop .i) (omega arith) ∙ at-loop .loop .inv .1)
+loop-again c = (omega arith, c .part .ensures ∙ c .before .before .before .before .loop .inv .1)
 
 returns : tie.Need-returns Inv-loop μ-loop
 returns c =
@@ -51,9 +43,8 @@ valid-spec =
     Inv-loop
     μ-loop
     loop-holds
-    shared-slice-read-step
-    step-requires
-    add-i
+    stop-requires
+    part-requires
     loop-less
     loop-again
     returns)

@@ -1,11 +1,11 @@
 -- `chars::count` meets its contract. The loop's invariant: what has been counted, with what is still to come, is the whole count.
-use mathlib.Core.Path.{_≡_, ap}
+use mathlib.Core.Path.{_≡_}
 use Prim.Native.Nat.{_+_, _-_, _≤_}
 use native.Mathlib.Omega.{arith}
 use lib.ListN.{length, drop}
 use Rattle.plain.specs.Count.{countIf}
-use Rattle.plain.specs.Place.{isStart, startChars}
-use Rattle.plain.proofs.Count.{count-turn, count-end}
+use Rattle.plain.specs.Place.{isStart}
+use Rattle.plain.proofs.Count.{count-end}
 use Rattle.str_indices.proofs.chars.count.Statement.{statement}
 use Rattle.str_indices.proofs.chars.count.Tie as tie
 
@@ -18,27 +18,23 @@ abbrev μ-loop : tie.MeasureT-loop
 loop-holds : tie.Need-loop-holds Inv-loop μ-loop
 loop-holds c = (omega arith, omega arith, omega arith)
 
-shared-slice-read-begun : tie.Need-shared-slice-read-begun Inv-loop μ-loop
-shared-slice-read-begun c = omega arith
+stop-requires : tie.Need-stop-requires Inv-loop μ-loop
+stop-requires c κs = omega arith
 
-begun-requires : tie.Need-begun-requires Inv-loop μ-loop
-begun-requires c κs = tt
+count-part-requires : tie.Need-count-part-requires Inv-loop μ-loop
+count-part-requires c κs = (omega arith, omega arith, omega arith)
+
+sum-of-requires : tie.Need-sum-of-requires Inv-loop μ-loop
+sum-of-requires c κs = tt
 
 add-n : tie.Need-add-n Inv-loop μ-loop
 add-n c = omega arith
-
-add-i : tie.Need-add-i Inv-loop μ-loop
-add-i c = omega arith
 
 loop-less : tie.Need-loop-less Inv-loop μ-loop
 loop-less c = omega arith
 
 loop-again : tie.Need-loop-again Inv-loop μ-loop
-unfolding startChars
-loop-again c =
-    let at-loop = c .before .before .before in
-    let text = at-loop .before .before .args .text .now in
-    (omega arith, omega arith, omega (arith, count-turn text (at-loop .loop .i) (omega arith) isStart))
+loop-again c = (omega arith, omega arith, omega arith)
 
 returns : tie.Need-returns Inv-loop μ-loop
 returns c =
@@ -52,10 +48,10 @@ count-spec =
     Inv-loop
     μ-loop
     loop-holds
-    shared-slice-read-begun
-    begun-requires
+    stop-requires
+    count-part-requires
+    sum-of-requires
     add-n
-    add-i
     loop-less
     loop-again
     returns)

@@ -4,7 +4,7 @@ use Prim.Native.Nat.{ℕ, _+_, _-_, _≤_}
 use native.Mathlib.Omega.{arith}
 use lib.ListN.{drop}
 use Rattle.plain.specs.Count.{breaks}
-use Rattle.plain.proofs.Count.{break-turn, line-drop}
+use Rattle.plain.proofs.Count.{line-drop}
 use Rattle.str_indices.proofs.lines_crlf.ended_by.Statement.{statement}
 use Rattle.str_indices.proofs.lines_crlf.ended_by.Tie as tie
 
@@ -17,23 +17,23 @@ abbrev μ-loop : tie.MeasureT-loop
 loop-holds : tie.Need-loop-holds Inv-loop μ-loop
 loop-holds c = (omega arith, omega arith, omega arith)
 
-ended-requires : tie.Need-ended-requires Inv-loop μ-loop
-ended-requires c κs = omega arith
+stop-requires : tie.Need-stop-requires Inv-loop μ-loop
+stop-requires c κs = omega arith
+
+ended-part-requires : tie.Need-ended-part-requires Inv-loop μ-loop
+ended-part-requires c κs = (omega arith, omega arith, omega arith)
+
+sum-of-requires : tie.Need-sum-of-requires Inv-loop μ-loop
+sum-of-requires c κs = tt
 
 add-n : tie.Need-add-n Inv-loop μ-loop
 add-n c = omega arith
-
-add-i : tie.Need-add-i Inv-loop μ-loop
-add-i c = omega arith
 
 loop-less : tie.Need-loop-less Inv-loop μ-loop
 loop-less c = omega arith
 
 loop-again : tie.Need-loop-again Inv-loop μ-loop
-loop-again c =
-    let at-loop = c .before .before in
-    let text = at-loop .before .before .args .text .now in
-    (omega arith, omega arith, omega (arith, break-turn text (at-loop .loop .i) (omega arith)))
+loop-again c = (omega arith, omega arith, omega arith)
 
 returns : tie.Need-returns Inv-loop μ-loop
 returns c =
@@ -49,9 +49,10 @@ ended-by-spec =
     Inv-loop
     μ-loop
     loop-holds
-    ended-requires
+    stop-requires
+    ended-part-requires
+    sum-of-requires
     add-n
-    add-i
     loop-less
     loop-again
     returns)

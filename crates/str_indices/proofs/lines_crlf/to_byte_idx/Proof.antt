@@ -1,6 +1,6 @@
 -- `lines_crlf::to_byte_idx` meets its contract. The loop's invariant: the bytes passed, and the start of what is left of the lines
 -- among those still to come, make the start looked for.
-use mathlib.Core.Path.{_≡_, ap}
+use mathlib.Core.Path.{_≡_, ap, _∙_}
 use Prim.Native.Nat.{ℕ, suc, _+_, _-_, _≤_, _<_}
 use native.Mathlib.Omega.{arith}
 use lib.ListN.{length, getD, drop}
@@ -36,6 +36,9 @@ returns c =
 ended-requires : tie.Need-ended-requires Inv-loop μ-loop
 ended-requires c κs = omega arith
 
+sum-of-requires : tie.Need-sum-of-requires Inv-loop μ-loop
+sum-of-requires c κs = tt
+
 sub-left : tie.Need-sub-left Inv-loop μ-loop
 sub-left c = omega arith
 
@@ -47,10 +50,10 @@ loop-less c = omega arith
 
 loop-again : tie.Need-loop-again Inv-loop μ-loop
 loop-again c =
-    let at-loop = c .before .before .before in
+    let at-loop = c .before .before .before .before in
     let text = at-loop .before .before .args .text .now in
     let i = at-loop .loop .i in
-    let e = ap (λ (n : ℕ). lineStart (drop (i + 1) text) (at-loop .loop .left - n)) (c .ended .ensures .0) in
+    let e = ap (λ (n : ℕ). lineStart (drop (i + 1) text) (at-loop .loop .left - n)) (c .sum-of .ensures .0 ∙ c .before .ended .ensures .0) in
     (omega arith, omega (arith, e, start-turn text i (omega arith) (at-loop .loop .left) (omega arith)))
 
 returns-2 : tie.Need-returns-2 Inv-loop μ-loop
@@ -71,6 +74,7 @@ to-byte-idx-spec =
     sub-if1
     returns
     ended-requires
+    sum-of-requires
     sub-left
     add-i
     loop-less

@@ -15,12 +15,15 @@ cast-result c = search needs
 wide-requires : tie.Need-wide-requires
 wide-requires c κs = search needs
 
+sum-of-requires : tie.Need-sum-of-requires
+sum-of-requires c κs = search needs
+
 add-result : tie.Need-add-result
-add-result c = let s = test-is _ _ (c .before .starts .ensures) in omega arith
+add-result c = let s = test-is _ _ (c .before .before .starts .ensures) in omega arith
 
 returns : tie.Need-returns
 unfolding startUnits
-returns c = let s = test-is _ _ (c .before .starts .ensures) in (omega arith, omega arith)
+returns c = let s = test-is _ _ (c .before .before .starts .ensures) in (omega arith, omega arith)
 
 pub begun-spec : {M : Type 1} → statement M
 begun-spec =
@@ -29,5 +32,6 @@ begun-spec =
     starts-requires
     cast-result
     wide-requires
+    sum-of-requires
     add-result
     returns)

@@ -1,11 +1,11 @@
 -- `utf16::count_surrogates` meets its contract. The loop's invariant: what has been counted, with what is still to come, is the whole count.
-use mathlib.Core.Path.{_≡_, ap}
+use mathlib.Core.Path.{_≡_}
 use Prim.Native.Nat.{_+_, _-_, _≤_}
 use native.Mathlib.Omega.{arith}
 use lib.ListN.{length, drop}
 use Rattle.plain.specs.Count.{countIf}
 use Rattle.plain.specs.Place.{isWide}
-use Rattle.plain.proofs.Count.{count-turn, count-end}
+use Rattle.plain.proofs.Count.{count-end}
 use Rattle.str_indices.proofs.utf16.count_surrogates.Statement.{statement}
 use Rattle.str_indices.proofs.utf16.count_surrogates.Tie as tie
 
@@ -18,26 +18,23 @@ abbrev μ-loop : tie.MeasureT-loop
 loop-holds : tie.Need-loop-holds Inv-loop μ-loop
 loop-holds c = (omega arith, omega arith, omega arith)
 
-shared-slice-read-wide : tie.Need-shared-slice-read-wide Inv-loop μ-loop
-shared-slice-read-wide c = omega arith
+stop-requires : tie.Need-stop-requires Inv-loop μ-loop
+stop-requires c κs = omega arith
 
-wide-requires : tie.Need-wide-requires Inv-loop μ-loop
-wide-requires c κs = tt
+wide-part-requires : tie.Need-wide-part-requires Inv-loop μ-loop
+wide-part-requires c κs = (omega arith, omega arith, omega arith)
+
+sum-of-requires : tie.Need-sum-of-requires Inv-loop μ-loop
+sum-of-requires c κs = tt
 
 add-n : tie.Need-add-n Inv-loop μ-loop
 add-n c = omega arith
-
-add-i : tie.Need-add-i Inv-loop μ-loop
-add-i c = omega arith
 
 loop-less : tie.Need-loop-less Inv-loop μ-loop
 loop-less c = omega arith
 
 loop-again : tie.Need-loop-again Inv-loop μ-loop
-loop-again c =
-    let at-loop = c .before .before .before in
-    let text = at-loop .before .before .args .text .now in
-    (omega arith, omega arith, omega (arith, count-turn text (at-loop .loop .i) (omega arith) isWide))
+loop-again c = (omega arith, omega arith, omega arith)
 
 returns : tie.Need-returns Inv-loop μ-loop
 returns c =
@@ -51,10 +48,10 @@ count-surrogates-spec =
     Inv-loop
     μ-loop
     loop-holds
-    shared-slice-read-wide
-    wide-requires
+    stop-requires
+    wide-part-requires
+    sum-of-requires
     add-n
-    add-i
     loop-less
     loop-again
     returns)

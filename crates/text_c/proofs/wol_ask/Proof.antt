@@ -1,13 +1,13 @@
--- `text_c::tell` meets its contract: what `ask` ensures, in each of the two cases.
+-- `text_c::wol_ask` meets its contract: what `ask_by` ensures, in each of the two cases.
 use mathlib.Core.Path.{sym, ap, _∙_}
 use borrow.Author.Needs.{needs}
 use Rattle.answer.specs.Answers.{number}
 use Rattle.text_c.specs.Told.{code, written}
-use Rattle.text_c.proofs.tell.Statement.{statement}
-use Rattle.text_c.proofs.tell.Tie as tie
+use Rattle.text_c.proofs.wol_ask.Statement.{statement}
+use Rattle.text_c.proofs.wol_ask.Tie as tie
 
-ask-requires : tie.Need-ask-requires
-ask-requires c κs = search needs
+ask-by-requires : tie.Need-ask-by-requires
+ask-by-requires c κs = search needs
 
 enum-known-n : tie.Need-enum-known-n
 enum-known-n c = search needs
@@ -21,14 +21,14 @@ number-of-requires c κs = search needs
 returns : tie.Need-returns
 unfolding code written
 returns c =
-    let o = sym (ap number (c .before .n .given .1)) ∙ c .before .before .before .ask .ensures in
+    let o = sym (ap number (c .before .n .given .1)) ∙ c .before .before .before .ask-by .ensures in
     (ap code o, ap (written (c .before .before .before .before .before .args .out .now)) o)
 
 returns-2 : tie.Need-returns-2
 unfolding code written
 returns-2 c =
-    let o = sym (ap number (c .before .before .r .given .1)) ∙ c .before .before .before .before .ask .ensures in
+    let o = sym (ap number (c .before .before .r .given .1)) ∙ c .before .before .before .before .ask-by .ensures in
     (c .number-of .ensures ∙ ap code o, ap (written (c .before .before .before .before .before .before .args .out .now)) o)
 
-pub tell-spec : {M : Type 1} → statement M
-tell-spec = tie.close (tie.spec ask-requires enum-known-n enum-known-r number-of-requires returns returns-2)
+pub wol-ask-spec : {M : Type 1} → statement M
+wol-ask-spec = tie.close (tie.spec ask-by-requires enum-known-n enum-known-r number-of-requires returns returns-2)

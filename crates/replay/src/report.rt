@@ -1,0 +1,88 @@
+// The lines of standard output.
+use crate::given::Given;
+use libc::STDOUT_FILENO;
+
+pub fn write(text: &[u8]) {
+    io::write_all(STDOUT_FILENO, text);
+}
+
+// A text, and a number behind it.
+fn write_with(text: &[u8], n: u64) {
+    write(text);
+    io::print_decimal(STDOUT_FILENO, n);
+}
+
+// The names of functions 1 to 6.
+fn write_crlf_name(f: usize) {
+    match f {
+        1 => write(b"is_break"),
+        2 => write(b"seam_is_break"),
+        3 => write(b"prev_break"),
+        4 => write(b"next_break"),
+        5 => write(b"nearest_internal_break"),
+        _ => write(b"find_good_split"),
+    }
+}
+
+// The names of functions 7 to 18.
+fn write_count_name(f: usize) {
+    match f {
+        7 => write(b"count_chars"),
+        8 => write(b"byte_to_char_idx"),
+        9 => write(b"char_to_byte_idx"),
+        10 => write(b"count_utf16_surrogates"),
+        11 => write(b"count_line_breaks"),
+        12 => write(b"byte_to_line_idx"),
+        13 => write(b"line_to_byte_idx"),
+        14 => write(b"char_to_line_idx"),
+        15 => write(b"line_to_char_idx"),
+        16 => write(b"byte_to_utf16_surrogate_idx"),
+        17 => write(b"utf16_code_unit_to_char_idx"),
+        _ => write(b"last_line_start_byte_idx"),
+    }
+}
+
+// The name of function f, from 1 to 21.
+fn write_name(f: usize) {
+    match f {
+        1..=6 => write_crlf_name(f),
+        7..=18 => write_count_name(f),
+        19 => write(b"trim_line_break"),
+        20 => write(b"ends_with_line_break"),
+        _ => write(b"valid"),
+    }
+}
+
+// The rest of a line that begins with a name.
+pub fn write_counts(cases: u32, differ: u32) {
+    write_with(b" ", cases as u64);
+    write_with(b" cases, ", differ as u64);
+    write(b" differ\n");
+}
+
+// A line for each function that has cases.
+pub fn write_functions(cases: &[u32; 22], differ: &[u32; 22]) {
+    let mut f: usize = 1;
+    while f < 22 {
+        if 0 < cases[f] {
+            write_name(f);
+            write_counts(cases[f], differ[f]);
+        }
+        f += 1;
+    }
+}
+
+// The first record that differs: its place, from 1, its function and our answer.
+pub fn write_first(k: u32, f: usize, given: Given) {
+    write_with(b"record ", k as u64);
+    write_with(b": ", f as u64);
+    write_with(b" refused ", given.refusal as u64);
+    write_with(b" value ", given.value as u64);
+    write(b"\n");
+}
+
+// The place, from 1, of what is no record.
+pub fn write_bad(k: u32) {
+    write_with(b"bad record ", k as u64);
+    write(b"\n");
+}
