@@ -2,7 +2,7 @@
 use crate::given::Given;
 use libc::STDOUT_FILENO;
 
-pub fn write(text: &[u8]) {
+pub(crate) fn write(text: &[u8]) {
     io::write_all(STDOUT_FILENO, text);
 }
 
@@ -54,14 +54,14 @@ fn write_name(f: usize) {
 }
 
 // The rest of a line that begins with a name.
-pub fn write_counts(cases: u32, differ: u32) {
+pub(crate) fn write_counts(cases: u32, differ: u32) {
     write_with(b" ", cases as u64);
     write_with(b" cases, ", differ as u64);
     write(b" differ\n");
 }
 
 // A line for each function that has cases.
-pub fn write_functions(cases: &[u32; 22], differ: &[u32; 22]) {
+pub(crate) fn write_functions(cases: &[u32; 22], differ: &[u32; 22]) {
     let mut f: usize = 1;
     while f < 22 {
         if 0 < cases[f] {
@@ -73,7 +73,7 @@ pub fn write_functions(cases: &[u32; 22], differ: &[u32; 22]) {
 }
 
 // The first record that differs: its place, from 1, its function and our answer.
-pub fn write_first(k: u32, f: usize, given: Given) {
+pub(crate) fn write_first(k: u32, f: usize, given: Given) {
     write_with(b"record ", k as u64);
     write_with(b": ", f as u64);
     write_with(b" refused ", given.refusal as u64);
@@ -82,7 +82,7 @@ pub fn write_first(k: u32, f: usize, given: Given) {
 }
 
 // The place, from 1, of what is no record.
-pub fn write_bad(k: u32) {
+pub(crate) fn write_bad(k: u32) {
     write_with(b"bad record ", k as u64);
     write(b"\n");
 }

@@ -1,45 +1,16 @@
 // Chars: a char is counted at its first byte.
-use crate::parts::stop;
-use crate::parts::sum_of;
+use crate::parts::count_outside;
 ghost use mathlib.Core.Path.{_≡_};
-ghost use Prim.Native.Nat.{_+_, _-_, _≤_};
-ghost use lib.ListN.{length, take, drop};
+ghost use Prim.Native.Nat.{_≤_};
+ghost use lib.ListN.{length, take};
 ghost use Rattle.plain.specs.Count.{countIf};
 ghost use Rattle.plain.specs.Place.{isStart, startChars, isBoundary, floorOf, placeOf};
 
-// How many chars begin at a byte: 1 or 0.
-fn begun(b: u8) -> u8
-    ensures { λ r. ⌜ (r ≡ startChars b) × (r ≤ 1) ⌝ }
-{
-    utf8::starts(b) as u8
-}
-
-// How many chars begin in a part.
-fn count_part(text: &[u8], a: usize, e: usize) -> u8
-    requires { ⌜ (a ≤ e) × (e ≤ length (now text)) × (e ≤ a + 224) ⌝ }
-    ensures { λ r. ⌜ (r + countIf isStart (drop e (now (text .entry))) ≡ countIf isStart (drop a (now (text .entry)))) × (r ≤ e - a) ⌝ }
-{
-    let mut n: u8 = 0;
-    let mut i = a;
-    while i < e {
-        n += begun(text[i]);
-        i += 1;
-    }
-    n
-}
-
-// How many chars there are.
+// How many chars there are: bytes that are no continuation bytes.
 pub fn count(text: &[u8]) -> usize
     ensures { λ r. ⌜ r ≡ countIf isStart (now (text .entry)) ⌝ }
 {
-    let mut n = 0;
-    let mut i = 0;
-    while i < text.len() {
-        let e = stop(i, text.len());
-        n += sum_of(count_part(text, i, e));
-        i = e;
-    }
-    n
+    count_outside(text, 0x80, 0xC0)
 }
 
 // Whether a byte index is a gap between chars.
@@ -77,6 +48,13 @@ pub fn from_byte_idx(text: &[u8], byte_idx: usize) -> usize
     count(&text[..i])
 }
 
+// How many chars begin at a byte: 1 or 0.
+fn begun(b: u8) -> usize
+    ensures { λ r. ⌜ (r ≡ startChars b) × (r ≤ 1) ⌝ }
+{
+    utf8::starts(b) as usize
+}
+
 // The byte index of a char index; past the end, the end.
 pub fn to_byte_idx(text: &[u8], char_idx: usize) -> usize
     ensures { λ r. ⌜ r ≡ placeOf startChars (now (text .entry)) «char_idx» ⌝ }
@@ -84,7 +62,7 @@ pub fn to_byte_idx(text: &[u8], char_idx: usize) -> usize
     let mut left = char_idx;
     let mut i = 0;
     while i < text.len() {
-        let k = sum_of(begun(text[i]));
+        let k = begun(text[i]);
         if left < k {
             return i;
         }

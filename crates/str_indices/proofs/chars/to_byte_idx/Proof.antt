@@ -1,6 +1,6 @@
 -- `chars::to_byte_idx` meets its contract. The loop's invariant: the bytes passed, and the place of what is left among those still to come,
 -- make the place looked for.
-use mathlib.Core.Path.{_≡_, ap, _∙_}
+use mathlib.Core.Path.{_≡_, ap}
 use Prim.Native.Nat.{ℕ, _+_, _-_, _≤_}
 use native.Mathlib.Omega.{arith}
 use lib.ListN.{length, drop}
@@ -24,12 +24,9 @@ shared-slice-read-begun c = omega arith
 begun-requires : tie.Need-begun-requires Inv-loop μ-loop
 begun-requires c κs = tt
 
-sum-of-requires : tie.Need-sum-of-requires Inv-loop μ-loop
-sum-of-requires c κs = tt
-
 returns : tie.Need-returns Inv-loop μ-loop
 returns c =
-    let at-loop = c .before .before .before .before .before in
+    let at-loop = c .before .before .before .before in
     let text = at-loop .before .before .args .text .now in
     let i = at-loop .loop .i in
     omega (arith, place-stop startChars text i (at-loop .loop .left) (omega arith) (omega arith))
@@ -42,10 +39,10 @@ loop-less c = omega arith
 
 loop-again : tie.Need-loop-again Inv-loop μ-loop
 loop-again c =
-    let at-loop = c .before .before .before .before .before in
+    let at-loop = c .before .before .before .before in
     let text = at-loop .before .before .args .text .now in
     let i = at-loop .loop .i in
-    let k = c .before .sum-of .ensures .0 ∙ c .before .before .begun .ensures .0 in
+    let k = c .before .begun .ensures .0 in
     let e = ap (λ (n : ℕ). placeOf startChars (drop (i + 1) text) (at-loop .loop .left - n)) k in
     (omega arith, omega (arith, e, place-turn startChars text i (at-loop .loop .left) (omega arith) (omega arith)))
 
@@ -63,7 +60,6 @@ to-byte-idx-spec =
     loop-holds
     shared-slice-read-begun
     begun-requires
-    sum-of-requires
     returns
     add-i
     loop-less
