@@ -14,7 +14,8 @@ skip() {
 
 [ -f "$oracle/prepare.sh" ] || skip "as the source crate is not at ../shared/oracle or \$ORACLE"
 if ! dpkg -L librust-smallvec-dev >/dev/null 2>&1; then
-    apt-get install -y librust-smallvec-dev >/dev/null 2>&1 || skip "as librust-smallvec-dev cannot be installed"
+    (timeout 120 apt-get update && timeout 300 apt-get install -y librust-smallvec-dev) >/dev/null 2>&1 ||
+        skip "as librust-smallvec-dev cannot be installed"
 fi
 
 # What the caller named is meant from the caller's folder.

@@ -31,6 +31,7 @@ fn breaks_at(byte_idx: usize, text: &[u8]) -> bool
     parts(text[byte_idx - 1], text[byte_idx])
 }
 
+// Whether an index is a break: 0, the end, or a byte that is no continuation byte and no LF after CR.
 pub fn is_break(byte_idx: usize, text: &[u8]) -> Truth
     ensures { λ r. ⌜ truth r ≡ atIndex (now (text .entry)) «byte_idx» (isBreak (now (text .entry)) «byte_idx») ⌝ }
 {
@@ -40,6 +41,7 @@ pub fn is_break(byte_idx: usize, text: &[u8]) -> Truth
     Truth::Is(breaks_at(byte_idx, text))
 }
 
+// Whether the seam between two sides is a break of both joined.
 pub fn seam_is_break(left: &[u8], right: &[u8]) -> Truth
     ensures { λ r. ⌜ truth r ≡ atSeam (now (left .entry)) (now (right .entry)) (isBreak (now (left .entry) ++ now (right .entry)) (length (now (left .entry)))) ⌝ }
 {
@@ -67,6 +69,7 @@ fn break_below(byte_idx: usize, text: &[u8]) -> usize
     boundary_idx
 }
 
+// The greatest break below an index; 0 for 0.
 pub fn prev_break(byte_idx: usize, text: &[u8]) -> Number
     ensures { λ r. ⌜ number r ≡ atIndex (now (text .entry)) «byte_idx» (prevBreak (now (text .entry)) «byte_idx») ⌝ }
 {
@@ -91,6 +94,7 @@ fn break_above(byte_idx: usize, text: &[u8]) -> usize
     boundary_idx
 }
 
+// The least break above an index; the end for the end.
 pub fn next_break(byte_idx: usize, text: &[u8]) -> Number
     ensures { λ r. ⌜ number r ≡ atIndex (now (text .entry)) «byte_idx» (nextBreak (now (text .entry)) «byte_idx») ⌝ }
 {
@@ -117,6 +121,7 @@ fn left_break(byte_idx: usize, text: &[u8]) -> Number
     Number::Is(prev)
 }
 
+// The break nearest to an index that is neither end of the text; the right end where there is none inside.
 pub fn nearest_internal_break(byte_idx: usize, text: &[u8]) -> Number
     ensures { λ r. ⌜ number r ≡ atIndex (now (text .entry)) «byte_idx» (nearestBreak (now (text .entry)) «byte_idx») ⌝ }
 {
@@ -142,6 +147,7 @@ pub fn nearest_internal_break(byte_idx: usize, text: &[u8]) -> Number
     Number::Is(left)
 }
 
+// The index if it is a break, else the break on the biased side, or on the other where that is an end of the text.
 pub fn find_good_split(byte_idx: usize, text: &[u8], bias_left: bool) -> Number
     ensures { λ r. ⌜ number r ≡ atIndex (now (text .entry)) «byte_idx» (goodSplit (now (text .entry)) «byte_idx» «bias_left») ⌝ }
 {

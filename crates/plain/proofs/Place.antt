@@ -10,11 +10,11 @@ use lib.Dec.{ltb, eqb}
 use lib.ListN.{length, getD, take, drop, length-append, drop-of-length-le}
 use lib.Seq.{drop-cons, getD-append-add, take-length}
 use borrow.Author.Tests.{lt-ltb, le-ltb, eq-eqb, ne-eqb, eqb-true}
-use Rattle.plain.specs.Chars.{allScalar, encodeChar, encode}
+use Rattle.plain.specs.Chars.{encodeChar, encode}
 use Rattle.plain.specs.Utf8.{validUtf8, decode}
 use Rattle.plain.specs.Search.{lastBy}
 use Rattle.plain.specs.Count.{bit, ends, lineStart, tailBreak, trimmed}
-use Rattle.plain.specs.Place.{byteWidth, unitWidth, total, bytes, byteAt, placeOf, placeOfByte, placeOfUnit, isPair, isStart, isWide, startChars, startUnits, isBoundary, floorOf}
+use Rattle.plain.specs.Place.{byteWidth, unitWidth, total, bytes, byteAt, placeOf, placeOfByte, placeOfUnit, isStart, startChars, startUnits, isBoundary, floorOf}
 use Rattle.plain.proofs.Logic.{cut, bit-le}
 use Rattle.plain.proofs.Search.{last-at, last-le, last-passes, last-greatest}
 use Rattle.plain.proofs.Encode.{encode-1, encode-split, encode-take, encode-drop, scalar-take, scalar-drop}

@@ -1,24 +1,24 @@
 -- From bytes to the text: what a helper answers of well-formed bytes, and of others; the last line, and the break that ends bytes.
 use mathlib.Core.Path.{_≡_, refl, sym, ap, _∙_, subst}
-use mathlib.Core.Bool.{Bool, true, false, not, _&&_, _||_, cond}
+use mathlib.Core.Bool.{Bool, true, false, not, _&&_, cond}
 use mathlib.Core.List.{List, [], _∷_}
-use Prim.Native.Nat.{ℕ, zero, suc, _+_, _-_, _≤_, _<_}
+use Prim.Native.Nat.{ℕ, zero, suc, _+_, _≤_, _<_}
 use native.Mathlib.Omega.{arith}
 use native.Mathlib.Numerals.{add-one}
-use lib.Dec.{ltb, eqb}
-use lib.ListN.{length, getD, take, drop, drop-of-length-le}
+use lib.Dec.{eqb}
+use lib.ListN.{length, getD, take, drop}
 use lib.Seq.{length-take-le}
 use borrow.Author.Tests.{eq-eqb, ne-eqb, not-false}
 use Rattle.plain.specs.Chars.{encode}
 use Rattle.plain.specs.Utf8.{validUtf8, decode}
-use Rattle.plain.specs.Outcome.{Outcome, Outcome.value, Outcome.refused, ruled, part}
+use Rattle.plain.specs.Outcome.{Outcome, Outcome.value, Outcome.refused, part}
 use Rattle.plain.specs.Count.{bit, countIf, lfFirst, ends, breaks, lineAt, lineStart, tailBreak}
 use Rattle.plain.specs.Place.{isStart, isWide, isPair, byteAt, floorOf, placeOf, placeOfByte, placeOfUnit, startChars, startUnits}
 use Rattle.plain.proofs.Utf8.{valid-sound}
 use Rattle.plain.proofs.Outcome.{one-applies, one-passed, one-accepted, Known, known}
 use Rattle.plain.proofs.Encode.{encode-take}
 use Rattle.plain.proofs.Count.{ends-lf, ends-cr, ends-no, lf-at, lf-end, line-drop, line-zero, line-behind, start-le, break-turn, break-end, tail-two}
-use Rattle.plain.proofs.Text.{chars-encode, pairs-encode, line-encode, line-byte, tail-no-lf}
+use Rattle.plain.proofs.Text.{chars-encode, pairs-encode, line-encode, tail-no-lf}
 use Rattle.plain.proofs.Place.{byte-of-char, byte-of-unit, floor-encode, place-of-byte, place-le, start-encode}
 use Rattle.answer.specs.Answers.{number}
 use Rattle.answer.specs.declared.Number.{Number}

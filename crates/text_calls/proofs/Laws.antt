@@ -1,7 +1,7 @@
 -- An answer by its call, a truth as a number, a seam by its cut, and a part by its length.
 use mathlib.Core.Path.{_≡_, refl, sym, ap, _∙_}
 use mathlib.Core.Bool.{Bool, true, false}
-use mathlib.Core.List.{List, [], _∷_, _++_}
+use mathlib.Core.List.{List, _++_}
 use Prim.Native.Nat.{ℕ, _-_, _≤_, _<_}
 use native.Mathlib.Omega.{arith}
 use lib.ListN.{length, getD, take, drop, length-drop}
@@ -9,7 +9,6 @@ use lib.Seq.{take-all}
 use borrow.Author.Tests.{lt-ltb, le-ltb, eq-eqb, ne-eqb}
 use mir.Val.{boolByte}
 use Rattle.plain.specs.Chars.{encode}
-use Rattle.plain.specs.Utf8.{decode}
 use Rattle.plain.specs.Count.{bit, trimmed}
 use Rattle.plain.specs.Place.{bytes}
 use Rattle.plain.specs.Outcome.{Outcome, Outcome.value, Outcome.refused, part}

@@ -1,6 +1,5 @@
 -- `str_utils::last_line` meets its contract. The loop's invariant: no break, and no LF, stands behind the index.
-use mathlib.Core.Path.{_≡_}
-use Prim.Native.Nat.{suc, _-_, _≤_}
+use Prim.Native.Nat.{_-_, _≤_}
 use native.Mathlib.Omega.{arith}
 use lib.ListN.{length}
 use Rattle.str_utils.proofs.Laws.{NoBreak, no-break-end, no-break-down, last-lf, last-cr, last-none}

@@ -6,7 +6,7 @@ use borrow.Author.Needs.{needs}
 use borrow.Author.Tests.{not-true, not-false}
 use lib.ListN.{length, take}
 use lib.Seq.{length-take-le}
-use Rattle.plain.specs.Count.{tailBreak, trimmed}
+use Rattle.plain.specs.Count.{trimmed}
 use Rattle.plain.proofs.Place.{trim-encode}
 use Rattle.str_utils.proofs.Laws.{part-refused, part-is}
 use Rattle.str_utils.proofs.trim_line_break.Statement.{statement}

@@ -1,5 +1,4 @@
 -- `text_calls::ask_by` meets its contract: the call is the one that stands at its number.
-use native.Mathlib.Omega.{arith}
 use borrow.Author.Needs.{needs}
 use Rattle.text_calls.specs.Asked.{calls}
 use Rattle.text_calls.proofs.Laws.{no-call-0, no-call, by-number}

@@ -1,5 +1,5 @@
 -- `text_calls::seam_at` meets its contract: refused past the end, else the seam of the two sides.
-use mathlib.Core.Path.{sym, ap, _∙_}
+use mathlib.Core.Path.{sym, _∙_}
 use borrow.Author.Needs.{needs}
 use lib.Seq.{length-take-le}
 use Rattle.text_calls.proofs.Laws.{seam-past, seam-cut}

@@ -1,5 +1,4 @@
 -- `utf8::step` meets its contract: a first byte asks by its row, a later one is in its range or ends all acceptance.
-use mathlib.Core.Path.{refl, sym, _∙_}
 use native.Mathlib.Omega.{arith}
 use borrow.Author.Needs.{needs}
 use Rattle.plain.proofs.Table.{within-low, within-high, class-below}

@@ -1,11 +1,11 @@
 -- `lines_crlf::count_breaks` meets its contract: the breaks up to the last byte, and the last byte's own.
-use mathlib.Core.Path.{_≡_, sym, ap}
+use mathlib.Core.Path.{sym, ap}
 use mathlib.Core.List.{List}
 use Prim.Native.Nat.{ℕ, _+_, _-_}
 use native.Mathlib.Omega.{arith}
 use borrow.Author.Needs.{needs}
-use lib.ListN.{length, getD, drop, drop-of-length-le}
-use Rattle.plain.specs.Count.{bit, ends, breaks}
+use lib.ListN.{length, getD, drop-of-length-le}
+use Rattle.plain.specs.Count.{bit, ends}
 use Rattle.plain.proofs.Count.{line-drop, break-turn, break-end}
 use Rattle.str_indices.proofs.lines_crlf.count_breaks.Statement.{statement}
 use Rattle.str_indices.proofs.lines_crlf.count_breaks.Tie as tie

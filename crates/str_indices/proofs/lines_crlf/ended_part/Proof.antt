@@ -2,7 +2,7 @@
 use mathlib.Core.Path.{_≡_, ap}
 use Prim.Native.Nat.{ℕ, _+_, _-_, _≤_}
 use native.Mathlib.Omega.{arith}
-use lib.ListN.{length, drop}
+use lib.ListN.{drop}
 use Rattle.plain.specs.Count.{breaks}
 use Rattle.plain.proofs.Count.{break-turn}
 use Rattle.str_indices.proofs.lines_crlf.ended_part.Statement.{statement}

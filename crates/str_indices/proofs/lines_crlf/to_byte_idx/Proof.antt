@@ -1,7 +1,7 @@
 -- `lines_crlf::to_byte_idx` meets its contract. The loop's invariant: the bytes passed, and the start of what is left of the lines
 -- among those still to come, make the start looked for.
 use mathlib.Core.Path.{_≡_, ap, _∙_}
-use Prim.Native.Nat.{ℕ, suc, _+_, _-_, _≤_, _<_}
+use Prim.Native.Nat.{ℕ, suc, _+_, _-_, _≤_}
 use native.Mathlib.Omega.{arith}
 use lib.ListN.{length, getD, drop}
 use Rattle.plain.specs.Count.{bit, ends, lineStart}
