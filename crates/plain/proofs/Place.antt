@@ -138,21 +138,24 @@ pub no-boundary-pos : (s : List ℕ) (i : ℕ) → isBoundary s i ≡ false → 
 no-boundary-pos s zero e = absurd (false≢true (sym e ∙ boundary-0 s 0 refl))
 no-boundary-pos s (suc i) e = omega arith
 
--- the byte at a place begins a char, and those behind it do not until the next place
-starts-at : (cs : List ℕ) (p : ℕ) → p < length cs → isStart (getD (encode cs) (byteAt cs p) 0) ≡ true
+-- the byte at a place is its char's first, and those behind it do not begin one until the next place
+pub first-byte : (cs : List ℕ) (p : ℕ) → p < length cs → getD (encode cs) (byteAt cs p) 0 ≡ shape (getD cs p 0) .head
 unfolding encode
-starts-at [] p h = absurd (not-suc-le-zero h)
-starts-at (c ∷ cs) zero h = let s = shape c in ap (λ (l : List ℕ). isStart (getD (l ++ encode cs) 0 0)) (s .is) ∙ head-starts c s
-starts-at (c ∷ cs) (suc p) h =
-    ap (λ (j : ℕ). isStart (getD (encodeChar c ++ encode cs) j 0)) (length-append (encodeChar c) (encode (take p cs)))
-    ∙ ap isStart (getD-append-add (encodeChar c) (encode cs) (byteAt cs p) 0) ∙ starts-at cs p (omega arith)
+first-byte [] p h = absurd (not-suc-le-zero h)
+first-byte (c ∷ cs) zero h = ap (λ (l : List ℕ). getD (l ++ encode cs) 0 0) (shape c .is)
+first-byte (c ∷ cs) (suc p) h =
+    ap (λ (j : ℕ). getD (encodeChar c ++ encode cs) j 0) (length-append (encodeChar c) (encode (take p cs)))
+    ∙ getD-append-add (encodeChar c) (encode cs) (byteAt cs p) 0 ∙ first-byte cs p (omega arith)
+
+starts-at : (cs : List ℕ) (p : ℕ) → p < length cs → isStart (getD (encode cs) (byteAt cs p) 0) ≡ true
+starts-at cs p h = ap isStart (first-byte cs p h) ∙ head-starts (getD cs p 0) (shape (getD cs p 0))
 
 later-at : (xs r : List ℕ) (i : ℕ) → Laters xs → i < length xs → isStart (getD (xs ++ r) i 0) ≡ false
 later-at [] r i l h = absurd (not-suc-le-zero h)
 later-at (x ∷ xs) r zero l h = start-later x (l .0) (l .1)
 later-at (x ∷ xs) r (suc i) l h = later-at xs r i (l .2) (omega arith)
 
-inside : (cs : List ℕ) (p k : ℕ) → p < length cs → suc k < byteWidth (getD cs p 0) → isStart (getD (encode cs) (byteAt cs p + suc k) 0) ≡ false
+pub inside : (cs : List ℕ) (p k : ℕ) → p < length cs → suc k < byteWidth (getD cs p 0) → isStart (getD (encode cs) (byteAt cs p + suc k) 0) ≡ false
 unfolding encode
 inside [] p k h m = absurd (not-suc-le-zero h)
 inside (c ∷ cs) zero k h m =
