@@ -1,13 +1,8 @@
--- What the common form of an answer is.
-use Rattle.answer.specs.Answers.{refusalNumber}
-use Rattle.answer.specs.declared.Refusal.{Refusal}
-use Rattle.answer.specs.declared.Number.{Number}
-use Rattle.answer.specs.declared.Number.the-variants as Number·case
+-- An outcome in the common form: the number of a refusal, or 0, and the value, which is 0 beside a refusal.
+use Prim.Native.Nat.{ℕ}
+use Rattle.plain.specs.Outcome.{Outcome, Outcome.value, Outcome.refused}
 use Rattle.replay.specs.declared.given.Given.{Given}
 
-abbrev pub ofRefusal : Refusal → Given
-ofRefusal r = record { refusal = refusalNumber r; value = 0 }
-
-abbrev pub ofNumber : Number → Given
-ofNumber (Number·case.Is n) = record { refusal = 0; value = n }
-ofNumber (Number·case.Refused r) = ofRefusal r
+abbrev pub given : Outcome ℕ → Given
+given (value n) = record { refusal = 0; value = n }
+given (refused k) = record { refusal = k; value = 0 }

@@ -20,11 +20,11 @@ Known (Turn·case.Case f g s) = f < 22
 Known Turn·case.End = Unit {0}
 Known Turn·case.Bad = Unit {0}
 
--- a case says whether our answer is the one that was recorded
-abbrev pub Judged : Given → Turn → Type 0
-Judged was (Turn·case.Case f g s) = s ≡ isSame g was
-Judged was Turn·case.End = Unit {0}
-Judged was Turn·case.Bad = Unit {0}
+-- a case has the answer that is due, and says whether it is the one that was recorded
+abbrev pub Judged : Given → Given → Turn → Type 0
+Judged due was (Turn·case.Case f g s) = (g ≡ due) × (s ≡ isSame g was)
+Judged due was Turn·case.End = Unit {0}
+Judged due was Turn·case.Bad = Unit {0}
 
 unfoldable pub sum : List ℕ → ℕ
 sum [] = 0

@@ -2,7 +2,9 @@
 use answer::Number;
 use answer::Refusal;
 ghost use mathlib.Core.Path.{_≡_};
-ghost use Rattle.replay.specs.Answer.{ofRefusal, ofNumber};
+ghost use Rattle.plain.specs.Outcome.{Outcome.refused};
+ghost use Rattle.answer.specs.Answers.{refusalNumber, number};
+ghost use Rattle.replay.specs.Answer.{given};
 ghost use Rattle.replay.specs.Turns.{isSame};
 
 // The number of a refusal, or 0, and the value, which is 0 beside a refusal.
@@ -12,7 +14,7 @@ pub struct Given {
 }
 
 fn of_refusal(r: Refusal) -> Given
-    ensures { λ g. ⌜ g ≡ ofRefusal r ⌝ }
+    ensures { λ g. ⌜ g ≡ given (refused (refusalNumber r)) ⌝ }
 {
     Given {
         refusal: answer::number_of(r),
@@ -20,8 +22,8 @@ fn of_refusal(r: Refusal) -> Given
     }
 }
 
-pub fn of_number(n: Number) -> Given
-    ensures { λ g. ⌜ g ≡ ofNumber n ⌝ }
+pub(crate) fn of_number(n: Number) -> Given
+    ensures { λ g. ⌜ g ≡ given (number n) ⌝ }
 {
     match n {
         Number::Is(value) => Given { refusal: 0, value },
@@ -30,7 +32,7 @@ pub fn of_number(n: Number) -> Given
 }
 
 // Whether two answers are equal.
-pub fn same(a: Given, b: Given) -> bool
+pub(crate) fn same(a: Given, b: Given) -> bool
     ensures { λ r. ⌜ r ≡ isSame a b ⌝ }
 {
     if a.refusal != b.refusal {

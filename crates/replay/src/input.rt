@@ -6,7 +6,11 @@ use crate::given::of_number;
 use crate::given::same;
 use libc::STDIN_FILENO;
 ghost use mathlib.Core.Path.{_≡_};
+ghost use mathlib.Core.Bool.{not};
+ghost use lib.Dec.{eqb};
 ghost use lib.ListN.{getD};
+ghost use Rattle.text_calls.specs.Asked.{askedBy};
+ghost use Rattle.replay.specs.Answer.{given};
 ghost use Rattle.replay.specs.Big.{two as Big·two, four as Big·four, fourAt};
 ghost use Rattle.replay.specs.Turns.{Known, Judged};
 
@@ -41,7 +45,7 @@ fn four(a: u8, b: u8, c: u8, d: u8) -> usize
 }
 
 fn call_of(head: &[u8; 8]) -> Call
-    ensures { λ r. ⌜ (r .function ≡ getD (now (head .entry)) 0 0) × (r .index ≡ fourAt (now (head .entry)) 1) ⌝ }
+    ensures { λ r. ⌜ (r .function ≡ getD (now (head .entry)) 0 0) × (r .index ≡ fourAt (now (head .entry)) 1) × (r .«bias_left» ≡ not (eqb (getD (now (head .entry)) 5 0) 0)) ⌝ }
 {
     Call {
         function: head[0],
@@ -61,7 +65,7 @@ fn recorded(tail: &[u8; 5]) -> Given
 
 // Our answer, beside the recorded one.
 fn judge(c: Call, text: &[u8], was: Given) -> Turn
-    ensures { λ r. ⌜ Known r × Judged was r ⌝ }
+    ensures { λ r. ⌜ Known r × Judged (given (askedBy (c .function) (c .index) (c .«bias_left») (now (text .entry)))) was r ⌝ }
 {
     let f = c.function;
     if f == 0 {
@@ -98,7 +102,7 @@ fn read_body(c: Call, n: usize) -> Turn
 }
 
 // Reads one record and asks for our answer.
-pub fn next() -> Turn
+pub(crate) fn next() -> Turn
     ensures { λ r. ⌜ Known r ⌝ }
 {
     let mut head = [0u8; 8];
