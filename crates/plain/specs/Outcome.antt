@@ -26,3 +26,8 @@ past i end = ltb end i
 abbrev pub part : Outcome (List ℕ) → List ℕ
 part (value bs) = bs
 part (refused n) = []
+
+-- an outcome's value read by a function
+abbrev pub mapped : {A B : Type 0} → (A → B) → Outcome A → Outcome B
+mapped f (value a) = value (f a)
+mapped f (refused n) = refused n

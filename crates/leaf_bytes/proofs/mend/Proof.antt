@@ -1,0 +1,198 @@
+-- `mend` meets its contract: where the seam is moved to, the bytes between change sides.
+use mathlib.Core.Path.{refl, sym, ap, _∙_}
+use mathlib.Core.Bool.{false, _||_}
+use mathlib.Core.List.{[], _++_}
+use native.Mathlib.Omega.{arith}
+use lib.Dec.{eqb}
+use lib.ListN.{length, length-take}
+use lib.Seq.{length-take-le}
+use borrow.Author.Tests.{eq-eqb, ne-eqb}
+use Rattle.plain.proofs.Logic.{or-left, or-right, or-none}
+use Rattle.leaf_bytes.specs.Leaf.{leafOf, over}
+use Rattle.leaf_bytes.specs.Split.{seamSplit}
+use Rattle.leaf_bytes.specs.Raw.{cutting}
+use Rattle.leaf_bytes.proofs.Opened.{value-never, value-is}
+use Rattle.leaf_bytes.proofs.Rules.{leaves-refused, leaves-same, over-yes, over-no, mending-is, cutting-first, cutting-given, cutting-rest}
+use Rattle.leaf_bytes.proofs.Split.{seam-le}
+use borrow.Author.Needs.{needs}
+use Rattle.leaf_bytes.proofs.mend.Statement.{statement}
+use Rattle.leaf_bytes.proofs.mend.Tie as tie
+
+least-requires : tie.Need-least-requires
+least-requires c κs = search needs
+
+returns : tie.Need-returns
+returns c =
+    let a = c .before .before .before .before .args in
+    let x = a .left .now in
+    let y = a .right .now in
+    let l = leafOf x (a .len) in
+    let r = leafOf y (a .right-len) in
+    let is = mending-is x (a .len) y (a .right-len) in
+    let g = eqb (length l) 0 || eqb (length r) 0 in
+    let given = over x (a .len) || over y (a .right-len) in
+    leaves-refused _ _ _ _ 12
+    (is ∙ cutting-first x y (l ++ r) (seamSplit l r) 12 g given (or-left (eqb (length l) 0) (eqb (length r) 0) (eq-eqb (length l) 0 (omega (arith, length-take (a .len) x))))) refl
+
+least-requires-2 : tie.Need-least-requires-2
+least-requires-2 c κs = search needs
+
+returns-2 : tie.Need-returns-2
+returns-2 c =
+    let a = c .before .before .before .before .before .before .args in
+    let x = a .left .now in
+    let y = a .right .now in
+    let l = leafOf x (a .len) in
+    let r = leafOf y (a .right-len) in
+    let is = mending-is x (a .len) y (a .right-len) in
+    let g = eqb (length l) 0 || eqb (length r) 0 in
+    let given = over x (a .len) || over y (a .right-len) in
+    leaves-refused _ _ _ _ 12
+    (is ∙ cutting-first x y (l ++ r) (seamSplit l r) 12 g given (or-right (eqb (length l) 0) (eqb (length r) 0) (eq-eqb (length r) 0 (omega (arith, length-take (a .right-len) y))))) refl
+
+room-requires : tie.Need-room-requires
+room-requires c κs = search needs
+
+same-length : tie.Need-same-length
+same-length c = search needs
+
+returns-3 : tie.Need-returns-3
+returns-3 c =
+    let a = c .before .before .before .before .before .before .before .before .before .args in
+    let x = a .left .now in
+    let y = a .right .now in
+    let l = leafOf x (a .len) in
+    let r = leafOf y (a .right-len) in
+    let is = mending-is x (a .len) y (a .right-len) in
+    let g = eqb (length l) 0 || eqb (length r) 0 in
+    let given = over x (a .len) || over y (a .right-len) in
+    leaves-refused _ _ _ _ 11
+    (is ∙ cutting-given x y (l ++ r) (seamSplit l r) 12 g given
+    (or-none (eqb (length l) 0) (eqb (length r) 0) (ne-eqb (length l) 0 (omega (arith, length-take (a .len) x))) (ne-eqb (length r) 0 (omega (arith, length-take (a .right-len) y))))
+    (or-left (over x (a .len)) (over y (a .right-len)) (over-yes x (a .len) (omega arith))))
+    refl
+
+room-requires-2 : tie.Need-room-requires-2
+room-requires-2 c κs = search needs
+
+same-length-2 : tie.Need-same-length-2
+same-length-2 c = search needs
+
+same-length-3 : tie.Need-same-length-3
+same-length-3 c = search needs
+
+returns-4 : tie.Need-returns-4
+returns-4 c =
+    let a = c .before .before .before .before .before .before .before .before .before .before .before .before .args in
+    let x = a .left .now in
+    let y = a .right .now in
+    let l = leafOf x (a .len) in
+    let r = leafOf y (a .right-len) in
+    let is = mending-is x (a .len) y (a .right-len) in
+    let g = eqb (length l) 0 || eqb (length r) 0 in
+    let given = over x (a .len) || over y (a .right-len) in
+    leaves-refused _ _ _ _ 11
+    (is ∙ cutting-given x y (l ++ r) (seamSplit l r) 12 g given
+    (or-none (eqb (length l) 0) (eqb (length r) 0) (ne-eqb (length l) 0 (omega (arith, length-take (a .len) x))) (ne-eqb (length r) 0 (omega (arith, length-take (a .right-len) y))))
+    (or-right (over x (a .len)) (over y (a .right-len)) (over-yes y (a .right-len) (omega arith))))
+    refl
+
+slice-reshare-prefix-seam-split : tie.Need-slice-reshare-prefix-seam-split
+slice-reshare-prefix-seam-split c = search needs
+
+slice-aggregate-seam-split : tie.Need-slice-aggregate-seam-split
+slice-aggregate-seam-split c = sym (length-take-le (c .before .before .before .before .before .before .before .before .before .before .before .before .before .args .len) (c .before .before .before .before .before .before .before .before .before .before .before .before .before .args .left .now) (omega arith))
+
+slice-reshare-prefix-seam-split-2 : tie.Need-slice-reshare-prefix-seam-split-2
+slice-reshare-prefix-seam-split-2 c = search needs
+
+slice-aggregate-seam-split-2 : tie.Need-slice-aggregate-seam-split-2
+slice-aggregate-seam-split-2 c = sym (length-take-le (c .before .before .before .before .before .before .before .before .before .before .before .before .before .before .args .right-len) (c .before .before .before .before .before .before .before .before .before .before .before .before .before .before .args .right .now) (omega arith))
+
+seam-split-requires : tie.Need-seam-split-requires
+seam-split-requires c κs =
+    let long = length-take-le (c .before .before .before .before .before .before .before .before .before .before .before .before .before .before .args .len) (c .before .before .before .before .before .before .before .before .before .before .before .before .before .before .args .left .now) (omega arith) in
+    let right-long = length-take-le (c .before .before .before .before .before .before .before .before .before .before .before .before .before .before .args .right-len) (c .before .before .before .before .before .before .before .before .before .before .before .before .before .before .args .right .now) (omega arith) in
+    (omega arith, omega arith, omega arith, omega arith)
+
+enum-known-r : tie.Need-enum-known-r
+enum-known-r c = search needs
+
+enum-known-split : tie.Need-enum-known-split
+enum-known-split c = search needs
+
+move-seam-requires : tie.Need-move-seam-requires
+move-seam-requires c κs =
+    let a = c .before .before .before .before .before .before .before .before .before .before .before .before .before .before .before .before .before .before .before .before .args in
+    let l = leafOf (a .left .now) (a .len) in
+    let r = leafOf (a .right .now) (a .right-len) in
+    let split = value-is _ _ (c .before .before .before .before .before .seam-split .ensures) _ (c .before .before .before .split .given .1) in (
+      omega arith,
+      omega arith,
+      omega (arith, split, seam-le l r, length-take-le (a .len) (a .left .now) (omega arith), length-take-le (a .right-len) (a .right .now) (omega arith)),
+      omega arith,
+    )
+
+same-length-4 : tie.Need-same-length-4
+same-length-4 c = search needs
+
+same-length-5 : tie.Need-same-length-5
+same-length-5 c = search needs
+
+returns-5 : tie.Need-returns-5
+returns-5 c = absurd (value-never _ _ (c .before .before .before .seam-split .ensures) _ (c .before .r .given .1))
+
+same-length-6 : tie.Need-same-length-6
+same-length-6 c = search needs
+
+same-length-7 : tie.Need-same-length-7
+same-length-7 c = search needs
+
+returns-6 : tie.Need-returns-6
+returns-6 c =
+    let a = c .before .before .before .before .before .before .before .before .before .before .before .before .before .before .before .before .before .before .before .before .before .before .before .before .before .args in
+    let x = a .left .now in
+    let y = a .right .now in
+    let l = leafOf x (a .len) in
+    let r = leafOf y (a .right-len) in
+    let is = mending-is x (a .len) y (a .right-len) in
+    let g = eqb (length l) 0 || eqb (length r) 0 in
+    let given = over x (a .len) || over y (a .right-len) in
+    let split = value-is _ _ (c .before .before .before .before .before .before .before .before .before .before .seam-split .ensures) _ (c .before .before .before .before .before .before .before .before .split .given .1) in
+    leaves-same _ _ _ _ _ _ _
+    (ap (cutting [] false x y (l ++ r)) split
+    ∙ sym
+    (is ∙ cutting-rest x y (l ++ r) (seamSplit l r) 12 g given
+    (or-none (eqb (length l) 0) (eqb (length r) 0) (ne-eqb (length l) 0 (omega (arith, length-take (a .len) x))) (ne-eqb (length r) 0 (omega (arith, length-take (a .right-len) y))))
+    (or-none (over x (a .len)) (over y (a .right-len)) (over-no x (a .len) (omega arith)) (over-no y (a .right-len) (omega arith)))))
+    (c .before .before .before .before .move-seam .ensures)
+
+pub mend-spec : {M : Type 1} → statement M
+mend-spec =
+    tie.close
+    (tie.spec
+    least-requires
+    returns
+    least-requires-2
+    returns-2
+    room-requires
+    same-length
+    returns-3
+    room-requires-2
+    same-length-2
+    same-length-3
+    returns-4
+    slice-reshare-prefix-seam-split
+    slice-aggregate-seam-split
+    slice-reshare-prefix-seam-split-2
+    slice-aggregate-seam-split-2
+    seam-split-requires
+    enum-known-r
+    enum-known-split
+    move-seam-requires
+    same-length-4
+    same-length-5
+    returns-5
+    same-length-6
+    same-length-7
+    returns-6)

@@ -1,0 +1,6 @@
+pub mod Rules
+pub mod Parts
+pub mod Texts
+pub mod Checks
+pub mod Counts
+pub mod Shown
