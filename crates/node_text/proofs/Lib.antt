@@ -4,3 +4,4 @@ pub mod Texts
 pub mod Checks
 pub mod Counts
 pub mod Shown
+pub mod Full
