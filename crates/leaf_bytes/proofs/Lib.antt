@@ -3,6 +3,7 @@ pub mod Laid
 pub mod Window
 pub mod Opened
 pub mod Rules
+pub mod Calls
 pub mod Inner
 pub mod Split
 pub mod Unique

@@ -3,17 +3,14 @@ use mathlib.Core.Path.{refl, sym, ap, _∙_}
 use mathlib.Core.Bool.{false}
 use mathlib.Core.List.{[]}
 use native.Mathlib.Omega.{arith}
-use lib.ListN.{length, length-take}
 use lib.Seq.{length-take-le}
-use borrow.Author.Tests.{lt-ltb, le-ltb}
 use Rattle.plain.specs.Edit.{putIn}
-use Rattle.plain.specs.Outcome.{past}
-use Rattle.leaf_bytes.specs.Leaf.{leafOf, over}
-use Rattle.leaf_bytes.specs.Split.{halfSplit}
+use Rattle.leaf_bytes.specs.Leaf.{leafOf}
 use Rattle.leaf_bytes.specs.Raw.{cutting}
 use Rattle.leaf_bytes.proofs.Laid.{whole-length}
 use Rattle.leaf_bytes.proofs.Opened.{value-never, value-is}
-use Rattle.leaf_bytes.proofs.Rules.{leaves-refused, leaves-same, over-yes, over-no, halving-is, cut-long, cutting-first, cutting-given, cutting-sides, cutting-rest}
+use Rattle.leaf_bytes.proofs.Calls.{halve-past, halve-long, halve-piece, halve-rest}
+use Rattle.leaf_bytes.proofs.Rules.{leaves-refused, leaves-same}
 use Rattle.leaf_bytes.proofs.Split.{half-le}
 use borrow.Author.Needs.{needs}
 use Rattle.leaf_bytes.proofs.halve.Statement.{statement}
@@ -25,12 +22,7 @@ least-requires c κs = search needs
 returns : tie.Need-returns
 returns c =
     let a = c .before .before .before .before .before .args in
-    let r = a .region .now in
-    let l = leafOf r (a .len) in
-    let t = putIn (a .at) (a .piece .now) l in
-    let is = halving-is r (a .len) (a .at) (a .piece .now) (a .right .now) in
-    let g = past (a .at) (length l) in
-    leaves-refused _ _ _ _ 3 (is ∙ cutting-first r (a .right .now) t (halfSplit t) 3 g (over r (a .len)) (lt-ltb (length l) (a .at) (omega (arith, length-take (a .len) r)))) refl
+    leaves-refused _ _ _ _ 3 (halve-past (a .region .now) (a .len) (a .at) (a .piece .now) (a .right .now) (omega arith)) refl
 
 room-requires : tie.Need-room-requires
 room-requires c κs = search needs
@@ -41,12 +33,7 @@ same-length c = search needs
 returns-2 : tie.Need-returns-2
 returns-2 c =
     let a = c .before .before .before .before .before .before .before .before .args in
-    let r = a .region .now in
-    let l = leafOf r (a .len) in
-    let t = putIn (a .at) (a .piece .now) l in
-    let is = halving-is r (a .len) (a .at) (a .piece .now) (a .right .now) in
-    let g = past (a .at) (length l) in
-    leaves-refused _ _ _ _ 11 (is ∙ cutting-given r (a .right .now) t (halfSplit t) 3 g (over r (a .len)) (le-ltb (length l) (a .at) (omega (arith, length-take (a .len) r))) (over-yes r (a .len) (omega arith))) refl
+    leaves-refused _ _ _ _ 11 (halve-long (a .region .now) (a .len) (a .at) (a .piece .now) (a .right .now) (omega arith) (omega arith)) refl
 
 mul-if3 : tie.Need-mul-if3
 mul-if3 c = search needs
@@ -57,14 +44,7 @@ same-length-2 c = search needs
 returns-3 : tie.Need-returns-3
 returns-3 c =
     let a = c .before .before .before .before .before .before .before .before .before .args in
-    let r = a .region .now in
-    let l = leafOf r (a .len) in
-    let t = putIn (a .at) (a .piece .now) l in
-    let is = halving-is r (a .len) (a .at) (a .piece .now) (a .right .now) in
-    let g = past (a .at) (length l) in
-    leaves-refused _ _ _ _ 11
-    (is ∙ cutting-sides r (a .right .now) t (halfSplit t) 3 g (over r (a .len)) (le-ltb (length l) (a .at) (omega (arith, length-take (a .len) r)))
-    (cut-long r (a .right .now) t (halfSplit t) (omega (arith, whole-length r (a .piece .now) (a .len) (a .at) 0 (omega arith) (omega arith))))) refl
+    leaves-refused _ _ _ _ 11 (halve-piece (a .region .now) (a .len) (a .at) (a .piece .now) (a .right .now) (omega arith) (omega arith) (omega arith)) refl
 
 slice-reshare-prefix-half-split : tie.Need-slice-reshare-prefix-half-split
 slice-reshare-prefix-half-split c = search needs
@@ -107,14 +87,10 @@ returns-5 : tie.Need-returns-5
 returns-5 c =
     let a = c .before .before .before .before .before .before .before .before .before .before .before .before .before .before .before .before .before .before .before .before .before .args in
     let r = a .region .now in
-    let l = leafOf r (a .len) in
-    let t = putIn (a .at) (a .piece .now) l in
-    let is = halving-is r (a .len) (a .at) (a .piece .now) (a .right .now) in
-    let g = past (a .at) (length l) in
     let split = value-is _ _ (c .before .before .before .before .before .before .before .before .before .before .half-split .ensures) _ (c .before .before .before .before .before .before .before .before .split .given .1) in
     leaves-same _ _ _ _ _ _ _
-    (ap (cutting [] false r (a .right .now) t) split
-    ∙ sym (is ∙ cutting-rest r (a .right .now) t (halfSplit t) 3 g (over r (a .len)) (le-ltb (length l) (a .at) (omega (arith, length-take (a .len) r))) (over-no r (a .len) (omega arith))))
+    (ap (cutting [] false r (a .right .now) (putIn (a .at) (a .piece .now) (leafOf r (a .len)))) split
+    ∙ sym (halve-rest r (a .len) (a .at) (a .piece .now) (a .right .now) (omega arith) (omega arith)))
     (c .before .before .before .before .lay-halves .ensures)
 
 pub halve-spec : {M : Type 1} → statement M

@@ -1,18 +1,14 @@
 -- `mend` meets its contract: where the seam is moved to, the bytes between change sides.
 use mathlib.Core.Path.{refl, sym, ap, _∙_}
-use mathlib.Core.Bool.{false, _||_}
+use mathlib.Core.Bool.{false}
 use mathlib.Core.List.{[], _++_}
 use native.Mathlib.Omega.{arith}
-use lib.Dec.{eqb}
-use lib.ListN.{length, length-take}
 use lib.Seq.{length-take-le}
-use borrow.Author.Tests.{eq-eqb, ne-eqb}
-use Rattle.plain.proofs.Logic.{or-left, or-right, or-none}
-use Rattle.leaf_bytes.specs.Leaf.{leafOf, over}
-use Rattle.leaf_bytes.specs.Split.{seamSplit}
+use Rattle.leaf_bytes.specs.Leaf.{leafOf}
 use Rattle.leaf_bytes.specs.Raw.{cutting}
 use Rattle.leaf_bytes.proofs.Opened.{value-never, value-is}
-use Rattle.leaf_bytes.proofs.Rules.{leaves-refused, leaves-same, over-yes, over-no, mending-is, cutting-first, cutting-given, cutting-rest}
+use Rattle.leaf_bytes.proofs.Calls.{mend-left-empty, mend-right-empty, mend-left-long, mend-right-long, mend-rest}
+use Rattle.leaf_bytes.proofs.Rules.{leaves-refused, leaves-same}
 use Rattle.leaf_bytes.proofs.Split.{seam-le}
 use borrow.Author.Needs.{needs}
 use Rattle.leaf_bytes.proofs.mend.Statement.{statement}
@@ -24,15 +20,7 @@ least-requires c κs = search needs
 returns : tie.Need-returns
 returns c =
     let a = c .before .before .before .before .args in
-    let x = a .left .now in
-    let y = a .right .now in
-    let l = leafOf x (a .len) in
-    let r = leafOf y (a .right-len) in
-    let is = mending-is x (a .len) y (a .right-len) in
-    let g = eqb (length l) 0 || eqb (length r) 0 in
-    let given = over x (a .len) || over y (a .right-len) in
-    leaves-refused _ _ _ _ 12
-    (is ∙ cutting-first x y (l ++ r) (seamSplit l r) 12 g given (or-left (eqb (length l) 0) (eqb (length r) 0) (eq-eqb (length l) 0 (omega (arith, length-take (a .len) x))))) refl
+    leaves-refused _ _ _ _ 12 (mend-left-empty (a .left .now) (a .len) (a .right .now) (a .right-len) (omega arith)) refl
 
 least-requires-2 : tie.Need-least-requires-2
 least-requires-2 c κs = search needs
@@ -40,15 +28,7 @@ least-requires-2 c κs = search needs
 returns-2 : tie.Need-returns-2
 returns-2 c =
     let a = c .before .before .before .before .before .before .args in
-    let x = a .left .now in
-    let y = a .right .now in
-    let l = leafOf x (a .len) in
-    let r = leafOf y (a .right-len) in
-    let is = mending-is x (a .len) y (a .right-len) in
-    let g = eqb (length l) 0 || eqb (length r) 0 in
-    let given = over x (a .len) || over y (a .right-len) in
-    leaves-refused _ _ _ _ 12
-    (is ∙ cutting-first x y (l ++ r) (seamSplit l r) 12 g given (or-right (eqb (length l) 0) (eqb (length r) 0) (eq-eqb (length r) 0 (omega (arith, length-take (a .right-len) y))))) refl
+    leaves-refused _ _ _ _ 12 (mend-right-empty (a .left .now) (a .len) (a .right .now) (a .right-len) (omega arith)) refl
 
 room-requires : tie.Need-room-requires
 room-requires c κs = search needs
@@ -59,18 +39,7 @@ same-length c = search needs
 returns-3 : tie.Need-returns-3
 returns-3 c =
     let a = c .before .before .before .before .before .before .before .before .before .args in
-    let x = a .left .now in
-    let y = a .right .now in
-    let l = leafOf x (a .len) in
-    let r = leafOf y (a .right-len) in
-    let is = mending-is x (a .len) y (a .right-len) in
-    let g = eqb (length l) 0 || eqb (length r) 0 in
-    let given = over x (a .len) || over y (a .right-len) in
-    leaves-refused _ _ _ _ 11
-    (is ∙ cutting-given x y (l ++ r) (seamSplit l r) 12 g given
-    (or-none (eqb (length l) 0) (eqb (length r) 0) (ne-eqb (length l) 0 (omega (arith, length-take (a .len) x))) (ne-eqb (length r) 0 (omega (arith, length-take (a .right-len) y))))
-    (or-left (over x (a .len)) (over y (a .right-len)) (over-yes x (a .len) (omega arith))))
-    refl
+    leaves-refused _ _ _ _ 11 (mend-left-long (a .left .now) (a .len) (a .right .now) (a .right-len) (omega arith) (omega arith) (omega arith)) refl
 
 room-requires-2 : tie.Need-room-requires-2
 room-requires-2 c κs = search needs
@@ -84,18 +53,7 @@ same-length-3 c = search needs
 returns-4 : tie.Need-returns-4
 returns-4 c =
     let a = c .before .before .before .before .before .before .before .before .before .before .before .before .args in
-    let x = a .left .now in
-    let y = a .right .now in
-    let l = leafOf x (a .len) in
-    let r = leafOf y (a .right-len) in
-    let is = mending-is x (a .len) y (a .right-len) in
-    let g = eqb (length l) 0 || eqb (length r) 0 in
-    let given = over x (a .len) || over y (a .right-len) in
-    leaves-refused _ _ _ _ 11
-    (is ∙ cutting-given x y (l ++ r) (seamSplit l r) 12 g given
-    (or-none (eqb (length l) 0) (eqb (length r) 0) (ne-eqb (length l) 0 (omega (arith, length-take (a .len) x))) (ne-eqb (length r) 0 (omega (arith, length-take (a .right-len) y))))
-    (or-right (over x (a .len)) (over y (a .right-len)) (over-yes y (a .right-len) (omega arith))))
-    refl
+    leaves-refused _ _ _ _ 11 (mend-right-long (a .left .now) (a .len) (a .right .now) (a .right-len) (omega arith) (omega arith) (omega arith)) refl
 
 slice-reshare-prefix-seam-split : tie.Need-slice-reshare-prefix-seam-split
 slice-reshare-prefix-seam-split c = search needs
@@ -151,20 +109,10 @@ same-length-7 c = search needs
 returns-6 : tie.Need-returns-6
 returns-6 c =
     let a = c .before .before .before .before .before .before .before .before .before .before .before .before .before .before .before .before .before .before .before .before .before .before .before .before .before .args in
-    let x = a .left .now in
-    let y = a .right .now in
-    let l = leafOf x (a .len) in
-    let r = leafOf y (a .right-len) in
-    let is = mending-is x (a .len) y (a .right-len) in
-    let g = eqb (length l) 0 || eqb (length r) 0 in
-    let given = over x (a .len) || over y (a .right-len) in
     let split = value-is _ _ (c .before .before .before .before .before .before .before .before .before .before .seam-split .ensures) _ (c .before .before .before .before .before .before .before .before .split .given .1) in
     leaves-same _ _ _ _ _ _ _
-    (ap (cutting [] false x y (l ++ r)) split
-    ∙ sym
-    (is ∙ cutting-rest x y (l ++ r) (seamSplit l r) 12 g given
-    (or-none (eqb (length l) 0) (eqb (length r) 0) (ne-eqb (length l) 0 (omega (arith, length-take (a .len) x))) (ne-eqb (length r) 0 (omega (arith, length-take (a .right-len) y))))
-    (or-none (over x (a .len)) (over y (a .right-len)) (over-no x (a .len) (omega arith)) (over-no y (a .right-len) (omega arith)))))
+    (ap (cutting [] false (a .left .now) (a .right .now) (leafOf (a .left .now) (a .len) ++ leafOf (a .right .now) (a .right-len))) split
+    ∙ sym (mend-rest (a .left .now) (a .len) (a .right .now) (a .right-len) (omega arith) (omega arith) (omega arith) (omega arith)))
     (c .before .before .before .before .move-seam .ensures)
 
 pub mend-spec : {M : Type 1} → statement M
