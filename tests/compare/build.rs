@@ -1,9 +1,11 @@
-//! Links libtext_c.a from the folder that TEXT_C_DIR names; the script sets it.
+//! Links libtext_c.a and libleaf_c.a from the folder that TEXT_C_DIR names; the script sets it.
 
 fn main() {
-    let folder = std::env::var("TEXT_C_DIR").expect("TEXT_C_DIR names the folder of libtext_c.a");
+    let folder = std::env::var("TEXT_C_DIR").expect("TEXT_C_DIR names the libraries' folder");
     println!("cargo:rerun-if-env-changed=TEXT_C_DIR");
-    println!("cargo:rerun-if-changed={folder}/libtext_c.a");
     println!("cargo:rustc-link-search=native={folder}");
-    println!("cargo:rustc-link-lib=static=text_c");
+    for library in ["text_c", "leaf_c"] {
+        println!("cargo:rerun-if-changed={folder}/lib{library}.a");
+        println!("cargo:rustc-link-lib=static={library}");
+    }
 }

@@ -1,2 +1,3 @@
 -- What several proofs of this crate cite.
 pub mod Sum
+pub mod Recorded

@@ -16,7 +16,7 @@ isSame a b = eqb (a .refusal) (b .refusal) && eqb (a .value) (b .value)
 
 -- the function of a case has a count
 abbrev pub Known : Turn → Type 0
-Known (Turn·case.Case f g s) = f < 22
+Known (Turn·case.Case f g s) = f < 32
 Known Turn·case.End = Unit {0}
 Known Turn·case.Bad = Unit {0}
 
@@ -36,9 +36,9 @@ pub record Counted (xs : List ℕ) (f : ℕ) (ys : List ℕ) : Type 0 where
   pub long : length ys ≡ length xs
   pub total : sum ys ≡ sum xs + 1
 
--- a count for each number below 22, and n in all
+-- a count for each number below 32, and n in all
 abbrev pub Sums : List ℕ → ℕ → Type 0
-Sums xs n = (length xs ≡ 22) × (sum xs ≡ n)
+Sums xs n = (length xs ≡ 32) × (sum xs ≡ n)
 
 -- the counts add up to what is said of the whole
 abbrev pub Adds : List ℕ → List ℕ → Ran → Type 0

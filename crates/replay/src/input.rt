@@ -1,9 +1,10 @@
-// The records of standard input. A record is 8 bytes of head (the function's number, the index in four bytes, the bias, the text's
-// length in two bytes), the text, and 5 bytes of tail (the number of a refusal, the value in four bytes). Numbers of several bytes have
-// the most significant first.
+// The records of standard input. A record of the text layer is 8 bytes of head (the function's number, the index in four bytes, the bias,
+// the text's length in two bytes), the text, and 5 bytes of tail (the number of a refusal, the value in four bytes). Numbers of several
+// bytes have the most significant first. The numbers above 21 are for the leaf's calls.
 use crate::given::Given;
 use crate::given::of_number;
 use crate::given::same;
+use crate::leaves;
 use libc::STDIN_FILENO;
 ghost use mathlib.Core.Path.{_≡_};
 ghost use mathlib.Core.Bool.{not};
@@ -32,7 +33,7 @@ pub enum Turn {
     Bad,
 }
 
-fn two(a: u8, b: u8) -> usize
+pub(crate) fn two(a: u8, b: u8) -> usize
     ensures { λ r. ⌜ r ≡ Big·two a b ⌝ }
 {
     (a as usize) * 256 + (b as usize)
@@ -112,6 +113,9 @@ pub(crate) fn next() -> Turn
     }
     if got != 8 {
         return Turn::Bad;
+    }
+    if 21 < head[0] {
+        return leaves::read(head[0] - 21, &head);
     }
     let c = call_of(&head);
     let n = two(head[6], head[7]);

@@ -3,6 +3,7 @@
 // and stops.
 mod given;
 mod input;
+mod leaves;
 mod report;
 
 use input::Turn;
@@ -18,8 +19,8 @@ enum Ran {
 }
 
 // One more for function f.
-fn count(counts: &mut [u32; 22], f: usize)
-    requires { ⌜ (f < 22) × (length (now counts) ≡ 22) × (sum (now counts) < 4294967295) ⌝ }
+fn count(counts: &mut [u32; 32], f: usize)
+    requires { ⌜ (f < 32) × (length (now counts) ≡ 32) × (sum (now counts) < 4294967295) ⌝ }
     ensures { λ _. ⌜ Counted (now (counts .entry)) f (now (counts .exit)) ⌝ }
 {
     counts[f] = counts[f] + 1;
@@ -27,7 +28,7 @@ fn count(counts: &mut [u32; 22], f: usize)
 
 // Counts the cases and those that differ. A proved loop has to end, and nothing says that the input does, so it takes no more records
 // than a u32 counts.
-fn run(cases: &mut [u32; 22], differ: &mut [u32; 22]) -> Ran
+fn run(cases: &mut [u32; 32], differ: &mut [u32; 32]) -> Ran
     requires { ⌜ Sums (now cases) 0 × Sums (now differ) 0 ⌝ }
     ensures { λ r. ⌜ Adds (now (cases .exit)) (now (differ .exit)) r ⌝ }
 {
@@ -63,8 +64,8 @@ fn run(cases: &mut [u32; 22], differ: &mut [u32; 22]) -> Ran
 }
 
 fn main() {
-    let mut cases = [0u32; 22];
-    let mut differ = [0u32; 22];
+    let mut cases = [0u32; 32];
+    let mut differ = [0u32; 32];
     let ran = run(&mut cases, &mut differ);
     match ran {
         Ran::Bad(k) => report::write_bad(k),

@@ -42,14 +42,31 @@ fn write_count_name(f: usize) {
     }
 }
 
-// The name of function f, from 1 to 21.
+// The names of functions 22 to 31.
+fn write_leaf_name(f: usize) {
+    match f {
+        22 => write(b"from_str"),
+        23 => write(b"insert_str"),
+        24 => write(b"insert_str_split"),
+        25 => write(b"push_str"),
+        26 => write(b"push_str_split"),
+        27 => write(b"truncate"),
+        28 => write(b"truncate_front"),
+        29 => write(b"remove_range"),
+        30 => write(b"split_off"),
+        _ => write(b"fix_segment_seam"),
+    }
+}
+
+// The name of function f, from 1 to 31.
 fn write_name(f: usize) {
     match f {
         1..=6 => write_crlf_name(f),
         7..=18 => write_count_name(f),
         19 => write(b"trim_line_break"),
         20 => write(b"ends_with_line_break"),
-        _ => write(b"valid"),
+        21 => write(b"valid"),
+        _ => write_leaf_name(f),
     }
 }
 
@@ -61,9 +78,9 @@ pub(crate) fn write_counts(cases: u32, differ: u32) {
 }
 
 // A line for each function that has cases.
-pub(crate) fn write_functions(cases: &[u32; 22], differ: &[u32; 22]) {
+pub(crate) fn write_functions(cases: &[u32; 32], differ: &[u32; 32]) {
     let mut f: usize = 1;
-    while f < 22 {
+    while f < 32 {
         if 0 < cases[f] {
             write_name(f);
             write_counts(cases[f], differ[f]);

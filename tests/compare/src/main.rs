@@ -6,6 +6,7 @@
 
 mod calls;
 mod groups;
+mod leaf;
 mod oracle;
 mod ours;
 mod record;
@@ -25,6 +26,15 @@ const FULL: Extent = Extent {
     random_strings: 20_000,
 };
 
+const FULL_LEAF: leaf::Extent = leaf::Extent {
+    leaf: 4,
+    piece: 3,
+    tight: 2,
+    around: 3,
+    random: 40_000,
+    counted: 6,
+};
+
 const SHORT: Extent = Extent {
     byte_string: 4,
     char_string: 4,
@@ -34,12 +44,21 @@ const SHORT: Extent = Extent {
     random_strings: 500,
 };
 
+const SHORT_LEAF: leaf::Extent = leaf::Extent {
+    leaf: 2,
+    piece: 2,
+    tight: 1,
+    around: 2,
+    random: 500,
+    counted: 4,
+};
+
 fn main() -> ExitCode {
     let words: Vec<String> = std::env::args().skip(1).collect();
     let words: Vec<&str> = words.iter().map(String::as_str).collect();
     match words[..] {
-        [] => compare(&FULL),
-        ["--short"] => compare(&SHORT),
+        [] => compare(&FULL, &FULL_LEAF),
+        ["--short"] => compare(&SHORT, &SHORT_LEAF),
         ["--record", path] => match record::write(path) {
             Ok(()) => ExitCode::SUCCESS,
             Err(error) => {
@@ -54,9 +73,10 @@ fn main() -> ExitCode {
     }
 }
 
-fn compare(extent: &Extent) -> ExitCode {
+fn compare(extent: &Extent, leaf_extent: &leaf::Extent) -> ExitCode {
     let mut totals = tally::Totals::default();
     groups::run(extent, &mut totals);
+    leaf::run(leaf_extent, &mut totals);
     if totals.close() {
         ExitCode::SUCCESS
     } else {

@@ -1,18 +1,19 @@
-//! Writes a sample of the source's answers, to be replayed where the source cannot be run.
+//! Writes a sample of the source's answers, to be replayed where the source cannot be run. First
+//! come the functions of the text layer, then the leaf's calls.
 //!
-//! A record, numbers big-endian: function 1, index 4, bias_left 1, text length 2, text,
+//! A record of the text layer, numbers big-endian: function 1, index 4, bias_left 1, text length 2, text,
 //! refusal 1 (0: accepted), value 4 (0 where refused).
 
 use std::collections::BTreeMap;
 use std::io;
 
 use crate::calls::{Answer, Case, Func, BREAK_FUNCS, INDEX_FUNCS, WHOLE_FUNCS};
-use crate::oracle;
-use crate::texts::Random;
+use crate::texts::{Random, DAMAGED};
+use crate::{leaf, oracle};
 
-/// Records of a sample, and the most bytes it may have.
+/// Records of the text layer, and the most bytes that the whole sample may have.
 const RECORDS: usize = 4_000;
-const MOST_BYTES: usize = 120 * 1024;
+const MOST_BYTES: usize = 400 * 1024;
 
 /// The largest index that a record can hold.
 const FARTHEST: usize = u32::MAX as usize;
@@ -48,30 +49,12 @@ const NO_TEXTS: [&[u8]; 5] = [
     b"a\x80\x80\x80\x80\r\nb",
 ];
 
-/// Refused by 5, one for each way in which the table shuts bytes out.
-const DAMAGED: [&[u8]; 14] = [
-    b"\x80",
-    b"a\xBF",
-    b"\xC0\x80",
-    b"\xC1\xBF",
-    b"\xC3",
-    b"\xE0\x9F\xBF",
-    b"\xE3\x81",
-    b"\xED\xA0\x80",
-    b"\xF0\x8F\xBF\xBF",
-    b"\xF0\x9F\x98",
-    b"\xF4\x90\x80\x80",
-    b"\xF5\x80\x80\x80",
-    b"a\r\n\xFF",
-    b"\xC3a",
-];
-
 #[derive(Default)]
-struct Sample {
+pub struct Sample {
     bytes: Vec<u8>,
     /// Accepted and refused calls of each function.
     counts: BTreeMap<u8, (usize, usize)>,
-    records: usize,
+    pub records: usize,
 }
 
 pub fn write(path: &str) -> io::Result<()> {
@@ -98,6 +81,7 @@ pub fn write(path: &str) -> io::Result<()> {
     while sample.records < RECORDS {
         sample.add_random(&mut random);
     }
+    leaf::record::write(&mut sample);
 
     assert!(
         sample.bytes.len() <= MOST_BYTES,
@@ -163,29 +147,28 @@ impl Sample {
     }
 
     fn add(&mut self, case: &Case) {
-        let func = case.func as u8;
-        let (accepted, refused) = self.counts.entry(func).or_default();
         let (refusal, value) = match oracle::answer(case) {
-            Answer::Value(value) => {
-                *accepted += 1;
-                (0, value)
-            }
-            Answer::Refused(number) | Answer::RefusedAndWrote(number, _) => {
-                *refused += 1;
-                (number, 0)
-            }
+            Answer::Value(value) => (0, value),
+            Answer::Refused(number) | Answer::RefusedAndWrote(number, _) => (number, 0),
         };
-        self.records += 1;
-
         let index = u32::try_from(case.index).expect("the index fits 4 bytes");
         let len = u16::try_from(case.text.len()).expect("the length fits 2 bytes");
         let value = u32::try_from(value).expect("the value fits 4 bytes");
+        let mut bytes = index.to_be_bytes().to_vec();
+        bytes.push(u8::from(case.bias_left));
+        bytes.extend_from_slice(&len.to_be_bytes());
+        bytes.extend_from_slice(case.text);
+        bytes.push(refusal);
+        bytes.extend_from_slice(&value.to_be_bytes());
+        self.push(case.func as u8, refusal != 0, &bytes);
+    }
+
+    /// A record of a function, which stands first in it.
+    pub fn push(&mut self, func: u8, is_refused: bool, bytes: &[u8]) {
+        let (accepted, refused) = self.counts.entry(func).or_default();
+        *(if is_refused { refused } else { accepted }) += 1;
+        self.records += 1;
         self.bytes.push(func);
-        self.bytes.extend_from_slice(&index.to_be_bytes());
-        self.bytes.push(u8::from(case.bias_left));
-        self.bytes.extend_from_slice(&len.to_be_bytes());
-        self.bytes.extend_from_slice(case.text);
-        self.bytes.push(refusal);
-        self.bytes.extend_from_slice(&value.to_be_bytes());
+        self.bytes.extend_from_slice(bytes);
     }
 }

@@ -16,12 +16,14 @@ impl Totals {
     pub fn group(&mut self, name: &str, run: impl FnOnce(&mut Group)) {
         let mut group = Group::default();
         run(&mut group);
-        println!(
-            "{name}: {} cases, {} of them refused, {} differences",
-            group.cases, group.refused, group.differences
-        );
-        self.cases += group.cases;
-        self.differences += group.differences;
+        self.add(name, group.cases, group.refused, group.differences);
+    }
+
+    /// Adds the counts of a group and prints them.
+    pub fn add(&mut self, name: &str, cases: u64, refused: u64, differences: u64) {
+        println!("{name}: {cases} cases, {refused} of them refused, {differences} differences");
+        self.cases += cases;
+        self.differences += differences;
     }
 
     /// Prints the total, and tells whether there was no difference.
@@ -62,11 +64,10 @@ impl Group {
         if !same {
             self.differences += 1;
             if self.differences <= SHOWN {
-                let hex: Vec<String> = case.text.iter().map(|b| format!("{b:02X}")).collect();
                 println!(
                     "  differs: {:?} of [{}] index {} bias_left {}: ours {ours:?}, {}",
                     case.func,
-                    hex.join(" "),
+                    hex(case.text),
                     case.index,
                     case.bias_left,
                     source()
@@ -74,4 +75,10 @@ impl Group {
             }
         }
     }
+}
+
+/// Bytes in hex, with a space between two.
+pub fn hex(bytes: &[u8]) -> String {
+    let bytes: Vec<String> = bytes.iter().map(|b| format!("{b:02X}")).collect();
+    bytes.join(" ")
 }

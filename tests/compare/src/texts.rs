@@ -16,6 +16,24 @@ pub const RANGE_ENDS: [u8; 41] = [
     0xF0, 0xF1, 0xF2, 0xF3, 0xF4, 0xF5, 0xF6, 0xFE, 0xFF,
 ];
 
+/// Refused by 5, one for each way in which the table shuts bytes out.
+pub const DAMAGED: [&[u8]; 14] = [
+    b"\x80",
+    b"a\xBF",
+    b"\xC0\x80",
+    b"\xC1\xBF",
+    b"\xC3",
+    b"\xE0\x9F\xBF",
+    b"\xE3\x81",
+    b"\xED\xA0\x80",
+    b"\xF0\x8F\xBF\xBF",
+    b"\xF0\x9F\x98",
+    b"\xF4\x90\x80\x80",
+    b"\xF5\x80\x80\x80",
+    b"a\r\n\xFF",
+    b"\xC3a",
+];
+
 /// An alphabet of single bytes.
 pub fn singles(bytes: &[u8]) -> Vec<&[u8]> {
     bytes.chunks(1).collect()
@@ -113,6 +131,29 @@ impl Random {
             }
             text.push(next);
         }
+    }
+
+    /// A well-formed text of exactly this many bytes.
+    pub fn text_of(&mut self, len: usize) -> Vec<u8> {
+        let mut text = self.text(len).into_bytes();
+        while text.len() < len {
+            let next = self.char();
+            if text.len() + next.len_utf8() <= len {
+                text.extend_from_slice(next.encode_utf8(&mut [0; 4]).as_bytes());
+            }
+        }
+        text
+    }
+
+    /// An index of a text or just past it: one in four any, else one that starts a char.
+    pub fn index_of(&mut self, text: &[u8]) -> usize {
+        let mut index = self.below(text.len() + 2);
+        if self.below(4) > 0 {
+            while index > 0 && text.get(index).map_or(false, |b| b & 0xC0 == 0x80) {
+                index -= 1;
+            }
+        }
+        index
     }
 
     /// At most `most` bytes: of one string in three any, of one line breaks and continuation

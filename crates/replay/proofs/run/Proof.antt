@@ -15,7 +15,7 @@ use Rattle.replay.proofs.run.Statement.{statement}
 use Rattle.replay.proofs.run.Tie as tie
 
 -- the function of a case is one that is counted
-below : {t : Turn} {f : ℕ} {g : Given} {s : Bool} → Known t → t ≡ Turn·case.Case f g s → f < 22
+below : {t : Turn} {f : ℕ} {g : Given} {s : Bool} → Known t → t ≡ Turn·case.Case f g s → f < 32
 below h e = rw e at h
 
 abbrev Inv-loop : tie.InvT-loop

@@ -8,7 +8,7 @@ abbrev Inv-loop : tie.InvT-loop
 Inv-loop cases differ f₀ f = Unit {0}
 
 abbrev μ-loop : tie.MeasureT-loop
-μ-loop cases differ f₀ f = 22 - f
+μ-loop cases differ f₀ f = 32 - f
 
 loop-holds : tie.Need-loop-holds Inv-loop μ-loop
 loop-holds c = search needs
