@@ -1,0 +1,3 @@
+pub mod Kids
+pub mod Calls
+pub mod Sought
