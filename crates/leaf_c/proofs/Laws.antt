@@ -16,13 +16,13 @@ use Rattle.node_text.specs.declared.text_info.TextInfo.{TextInfo}
 use Rattle.node_text.specs.declared.text_info.TextSum.{TextSum}
 use Rattle.node_text.specs.declared.text_info.Info.{Info}
 use Rattle.node_text.specs.declared.text_info.Info.the-variants as Info·case
-use Rattle.text_c.specs.Told.{code, written}
+use Rattle.text_c.specs.Told.{code}
 use Rattle.leaf_c.specs.Told.{LeavesTold, InfoTold, SumTold}
 
 module _ (o : Outcome (List ℕ × List ℕ)) (left right : List ℕ) (x y : ℕ) {s : Sides} {left-after right-after : List ℕ} where
   pub leaves-are : (l r : ℕ) → s ≡ Sides·case.Are l r → Leaves o left right s left-after right-after
       → LeavesTold o left right x y 0 left-after right-after l r
-  unfolding code written
+  unfolding code
   leaves-are l r e h = go o (rw e at h)
     where
       go : (o : Outcome (List ℕ × List ℕ)) → Leaves o left right (Sides·case.Are l r) left-after right-after
@@ -40,7 +40,7 @@ module _ (o : Outcome (List ℕ × List ℕ)) (left right : List ℕ) (x y : ℕ
 
   pub leaves-refused : (q : Refusal) (n : ℕ) → s ≡ Sides·case.Refused q → n ≡ refusalNumber q → Leaves o left right s left-after right-after
       → LeavesTold o left right x y n left-after right-after x y
-  unfolding code written
+  unfolding code
   leaves-refused q n e f h = go o (rw e at h)
     where
       go : (o : Outcome (List ℕ × List ℕ)) → Leaves o left right (Sides·case.Refused q) left-after right-after
@@ -52,7 +52,7 @@ module _ (o : Outcome (List ℕ × List ℕ)) (left right : List ℕ) (x y : ℕ
 
 module _ (o : Outcome TextInfo) (b c u l : ℕ) {a : Info} (h : info a ≡ o) where
   pub info-is : (i : TextInfo) → a ≡ Info·case.Is i → InfoTold o b c u l 0 (i .bytes) (i .chars) (i .«utf16_surrogates») (i .«line_breaks»)
-  unfolding code written
+  unfolding code
   info-is i e = go o (rw e at h)
     where
       go : (o : Outcome TextInfo) → value i ≡ o → InfoTold o b c u l 0 (i .bytes) (i .chars) (i .«utf16_surrogates») (i .«line_breaks»)
@@ -68,7 +68,7 @@ module _ (o : Outcome TextInfo) (b c u l : ℕ) {a : Info} (h : info a ≡ o) wh
       go (refused k) h = absurd (let z : _≡_ {A = ℕ} 0 1 = cc in omega arith)
 
   pub info-refused : (q : Refusal) (n : ℕ) → a ≡ Info·case.Refused q → n ≡ refusalNumber q → InfoTold o b c u l n b c u l
-  unfolding code written
+  unfolding code
   info-refused q n e f = go o (rw e at h)
     where
       go : (o : Outcome TextInfo) → refused (refusalNumber q) ≡ o → InfoTold o b c u l n b c u l

@@ -4,28 +4,28 @@ use mathlib.Core.Bool.{Bool, true, false}
 use mathlib.Core.List.{List}
 use Prim.Native.Nat.{ℕ}
 use lib.ListN.{length}
-use Rattle.plain.specs.Outcome.{Outcome, mapped}
-use Rattle.leaf_bytes.specs.Leaf.{written as left-over}
+use Rattle.plain.specs.Outcome.{Outcome, kept, mapped}
+use Rattle.leaf_bytes.specs.Leaf.{written}
 use Rattle.node_text.specs.Info.{Summed}
 use Rattle.node_text.specs.declared.text_info.TextInfo.{TextInfo}
 use Rattle.node_text.specs.declared.text_info.TextSum.{TextSum}
-use Rattle.text_c.specs.Told.{code, written}
+use Rattle.text_c.specs.Told.{code}
 
 -- two leaves: their lengths, and what is left of the two regions
 pub record LeavesTold (o : Outcome (List ℕ × List ℕ)) (left right : List ℕ) (x y r : ℕ) (left-after right-after : List ℕ) (x-after y-after : ℕ) : Type 0 where
   pub coded : r ≡ code (mapped (λ t. length (t .0)) o)
-  pub left-region : left-after ≡ left-over left (mapped (λ t. t .0) o)
-  pub right-region : right-after ≡ left-over right (mapped (λ t. t .1) o)
-  pub left-length : x-after ≡ written x (mapped (λ t. length (t .0)) o)
-  pub right-length : y-after ≡ written y (mapped (λ t. length (t .1)) o)
+  pub left-region : left-after ≡ written left (mapped (λ t. t .0) o)
+  pub right-region : right-after ≡ written right (mapped (λ t. t .1) o)
+  pub left-length : x-after ≡ kept x (mapped (λ t. length (t .0)) o)
+  pub right-length : y-after ≡ kept y (mapped (λ t. length (t .1)) o)
 
 -- the counts of a text
 pub record InfoTold (o : Outcome TextInfo) (b c u l r b-after c-after u-after l-after : ℕ) : Type 0 where
   pub coded : r ≡ code (mapped (λ i. i .bytes) o)
-  pub bytes-are : b-after ≡ written b (mapped (λ i. i .bytes) o)
-  pub chars-are : c-after ≡ written c (mapped (λ i. i .chars) o)
-  pub surrogates-are : u-after ≡ written u (mapped (λ i. i .«utf16_surrogates») o)
-  pub breaks-are : l-after ≡ written l (mapped (λ i. i .«line_breaks») o)
+  pub bytes-are : b-after ≡ kept b (mapped (λ i. i .bytes) o)
+  pub chars-are : c-after ≡ kept c (mapped (λ i. i .chars) o)
+  pub surrogates-are : u-after ≡ kept u (mapped (λ i. i .«utf16_surrogates») o)
+  pub breaks-are : l-after ≡ kept l (mapped (λ i. i .«line_breaks») o)
 
 -- a sum after an addition; after a subtraction the addition leads back
 abbrev pub SumTold : Bool → TextSum → TextInfo → TextSum → Type 0

@@ -7,7 +7,7 @@ use native.Mathlib.Omega.{arith}
 use lib.Dec.{eqb, leb}
 use lib.ListN.{take, getD}
 use borrow.Author.Tests.{lt-ltb, le-ltb, le-leb, lt-leb, eq-eqb, ne-eqb}
-use Rattle.plain.specs.Outcome.{Outcome, Outcome.value, Outcome.refused, ruled, past, mapped}
+use Rattle.plain.specs.Outcome.{Outcome, Outcome.value, Outcome.refused, ruled, past, kept, mapped}
 use Rattle.plain.proofs.Logic.{or-left, or-right, or-none}
 use Rattle.plain.proofs.Outcome.{rule-applies, rule-passed, one-applies, one-passed}
 use Rattle.answer.specs.Answers.{refusalNumber}
@@ -18,7 +18,7 @@ use Rattle.node_children.specs.declared.NodeChildren.{NodeChildren}
 use Rattle.node_children.specs.declared.Taken.{Taken}
 use Rattle.node_children.specs.declared.Two.{Two}
 use Rattle.pool.specs.Slot.{noKid}
-use Rattle.node_children.specs.Kids.{kids, listOf, kept, Listing, Taking, Parting}
+use Rattle.node_children.specs.Kids.{kids, listOf, Listing, Taking, Parting}
 use Rattle.node_children.specs.Calls.{withKid, without, cutAt, halves, pushed, popped, inserted, removed, splitOff, pushedSplit, insertedSplit, distributed}
 
 -- ── a promise met ──

@@ -3,7 +3,7 @@ use mathlib.Core.Path.{_≡_}
 use mathlib.Core.List.{List, _++_}
 use Prim.Native.Nat.{ℕ, _-_}
 use lib.ListN.{length, take, replicate}
-use Rattle.plain.specs.Outcome.{Outcome, Outcome.value, Outcome.refused, mapped}
+use Rattle.plain.specs.Outcome.{Outcome, Outcome.value, Outcome.refused, kept, mapped}
 use Rattle.answer.specs.Answers.{verdict}
 use Rattle.pool.specs.declared.Kid.{Kid}
 use Rattle.pool.specs.Slot.{noKid}
@@ -25,11 +25,6 @@ pub record Holds (c : NodeChildren) (n : ℕ) (ks : List Kid) : Type 0 where
   pub len : c .len ≡ n
   pub is : c ≡ listOf ks
   pub clean : c ≡ listOf (kids c)
-
--- the list that a call leaves: a refused one the list that it was given
-abbrev pub kept : NodeChildren → Outcome NodeChildren → NodeChildren
-kept before (value l) = l
-kept before (refused n) = before
 
 -- the child that a call hands out: a refused one `noKid`
 abbrev pub kidOf : Outcome Kid → Kid

@@ -26,7 +26,7 @@ ghost use Rattle.node_children.specs.Kids.{kids, listOf, Listing, Taking
 ghost use Rattle.node_children.specs.Calls.{halves, pushed, popped, inserted, removed, splitOff, pushedSplit, insertedSplit, distributed};
 
 // The children that a list has at most.
-pub const MAX_LEN: usize = MAX_CHILDREN;
+pub(crate) const MAX_LEN: usize = MAX_CHILDREN;
 
 pub struct NodeChildren {
     pub len: usize,

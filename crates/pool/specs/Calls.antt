@@ -5,7 +5,7 @@ use mathlib.Core.List.{List, [], _∷_}
 use Prim.Native.Nat.{ℕ, _+_}
 use lib.Dec.{eqb}
 use lib.ListN.{length, getD}
-use Rattle.plain.specs.Outcome.{Outcome, Outcome.value, Outcome.refused, Rule, ruled, past, mapped}
+use Rattle.plain.specs.Outcome.{Outcome, Outcome.value, Outcome.refused, Rule, ruled, past, kept, mapped}
 use Rattle.answer.specs.Answers.{refusalNumber, verdict}
 use Rattle.answer.specs.declared.Verdict.{Verdict}
 use Rattle.pool.specs.declared.Kid.{Kid}
@@ -80,12 +80,7 @@ listSet m s len = headSet m s 2 len 16 0
 unfoldable pub kidSet : List ℕ → ℕ → ℕ → Kid → Outcome (List ℕ)
 kidSet m s i k = ruled (noSlot m s ∷ noEntry i ∷ []) (kidPut m s i k)
 
--- a refused call changes no byte
-abbrev pub kept : List ℕ → Outcome (List ℕ) → List ℕ
-kept before (value m) = m
-kept before (refused n) = before
-
--- A writing call: its verdict, and every byte afterwards.
+-- A writing call: its verdict, and every byte afterwards. A refused one changes none.
 pub record Wrote (o : Outcome (List ℕ)) (before : List ℕ) (r : Verdict) (after : List ℕ) : Type 0 where
   pub answered : verdict r ≡ mapped (λ t. tt) o
   pub memory : after ≡ kept before o
