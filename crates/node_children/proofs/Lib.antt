@@ -1,8 +1,5 @@
 pub mod Lists
 pub mod Rules
 pub mod Halves
-pub mod Sums
-pub mod Found
-pub mod Reading
 pub mod Unique
 pub mod Shown

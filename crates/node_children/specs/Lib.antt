@@ -1,3 +1,2 @@
 pub mod Kids
 pub mod Calls
-pub mod Sought

@@ -2,7 +2,6 @@
 // its entries: one that is too long is refused. Where the Rust panics or asserts, a call refuses, and then it hands back the lists that
 // it was given. What is answered has zeros in every entry behind its children.
 mod inner;
-pub mod search;
 
 use answer::Refusal;
 use answer::Verdict;
@@ -26,7 +25,7 @@ ghost use Rattle.node_children.specs.Kids.{kids, listOf, Listing, Taking
 ghost use Rattle.node_children.specs.Calls.{halves, pushed, popped, inserted, removed, splitOff, pushedSplit, insertedSplit, distributed};
 
 // The children that a list has at most.
-pub(crate) const MAX_LEN: usize = MAX_CHILDREN;
+pub const MAX_LEN: usize = MAX_CHILDREN;
 
 pub struct NodeChildren {
     pub len: usize,

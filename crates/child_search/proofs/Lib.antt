@@ -1,0 +1,5 @@
+pub mod Sums
+pub mod Rules
+pub mod Reading
+pub mod Unique
+pub mod Shown
