@@ -7,7 +7,7 @@ use native.Mathlib.Nat.{sub-self}
 use native.Mathlib.Omega.{arith}
 use lib.ListN.{length, take, getD}
 use Rattle.plain.proofs.Logic.{cut}
-use Rattle.node_text.specs.declared.text_info.TextSum.{TextSum}
+use Rattle.text_info.specs.declared.TextSum.{TextSum}
 use Rattle.pool.specs.declared.Kid.{Kid}
 use Rattle.pool.specs.Slot.{noKid}
 use Rattle.child_search.specs.Sought.{plusInfo, sumFrom, searchFrom}

@@ -11,8 +11,8 @@ use Rattle.plain.proofs.Logic.{or-left, or-right, or-none}
 use Rattle.plain.proofs.Outcome.{rule-applies, one-applies, one-passed}
 use Rattle.answer.specs.Answers.{refusalNumber}
 use Rattle.answer.specs.declared.Refusal.{Refusal}
-use Rattle.node_text.specs.Info.{zeros}
-use Rattle.node_text.specs.declared.text_info.TextSum.{TextSum}
+use Rattle.text_info.specs.Info.{zeros}
+use Rattle.text_info.specs.declared.TextSum.{TextSum}
 use Rattle.node_children.specs.declared.NodeChildren.{NodeChildren}
 use Rattle.child_search.specs.declared.Found.{Found}
 use Rattle.child_search.specs.declared.Found.the-variants.{At, Refused}

@@ -3,7 +3,7 @@ use mathlib.Core.Path.{_≡_, refl}
 use mathlib.Core.List.{[]}
 use Prim.Native.Nat.{ℕ}
 use Rattle.plain.specs.Outcome.{Outcome.value, Outcome.refused}
-use Rattle.node_text.specs.declared.text_info.TextSum.{TextSum}
+use Rattle.text_info.specs.declared.TextSum.{TextSum}
 use Rattle.node_children.specs.Kids.{listOf}
 use Rattle.node_children.proofs.Shown.{three}
 use Rattle.child_search.specs.declared.Measure.the-variants.{Bytes, Chars, Utf16, Breaks}

@@ -8,10 +8,10 @@ use native.Mathlib.Omega.{arith}
 use lib.ListN.{length, drop, getD, drop-of-length-le}
 use lib.Seq.{drop-cons}
 use Rattle.plain.proofs.Logic.{or-left, or-right, or-none}
-use Rattle.node_text.specs.Info.{zeros, Summed}
-use Rattle.node_text.specs.declared.text_info.TextInfo.{TextInfo}
-use Rattle.node_text.specs.declared.text_info.TextSum.{TextSum}
-use Rattle.node_text.proofs.Counts.{sum-exact}
+use Rattle.text_info.specs.Info.{zeros, Summed}
+use Rattle.text_info.specs.declared.TextInfo.{TextInfo}
+use Rattle.text_info.specs.declared.TextSum.{TextSum}
+use Rattle.text_info.proofs.Counts.{sum-exact}
 use Rattle.pool.specs.declared.Kid.{Kid}
 use Rattle.pool.specs.Slot.{noKid}
 use Rattle.child_search.specs.Sought.{plusInfo, sumFrom, Within, Plus, none, searchFrom}

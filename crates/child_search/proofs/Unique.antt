@@ -4,7 +4,7 @@ use Prim.Native.Nat.{ℕ}
 use native.Mathlib.Omega.{arith}
 use Rattle.answer.specs.Answers.{refusalNumber}
 use Rattle.answer.proofs.Unique.{refusal-one}
-use Rattle.node_text.specs.declared.text_info.TextSum.{TextSum}
+use Rattle.text_info.specs.declared.TextSum.{TextSum}
 use Rattle.child_search.specs.declared.Sum.{Sum}
 use Rattle.child_search.specs.declared.Sum.the-variants as Sum·case
 use Rattle.child_search.specs.declared.Found.{Found}

@@ -7,9 +7,9 @@ use lib.Dec.{ltb, leb}
 use lib.ListN.{drop}
 use Rattle.plain.specs.Outcome.{Outcome, Outcome.value, Outcome.refused, ruled, past}
 use Rattle.answer.specs.Answers.{refusalNumber}
-use Rattle.node_text.specs.Info.{zeros}
-use Rattle.node_text.specs.declared.text_info.TextInfo.{TextInfo}
-use Rattle.node_text.specs.declared.text_info.TextSum.{TextSum}
+use Rattle.text_info.specs.Info.{zeros}
+use Rattle.text_info.specs.declared.TextInfo.{TextInfo}
+use Rattle.text_info.specs.declared.TextSum.{TextSum}
 use Rattle.pool.specs.declared.Kid.{Kid}
 use Rattle.node_children.specs.declared.NodeChildren.{NodeChildren}
 use Rattle.child_search.specs.declared.Sum.{Sum}

@@ -2,8 +2,8 @@
 use answer::Refusal;
 use node_children::MAX_LEN;
 use node_children::NodeChildren;
-use node_text::text_info::TextInfo;
-use node_text::text_info::TextSum;
+use text_info::TextInfo;
+use text_info::TextSum;
 ghost use mathlib.Core.Path.{_≡_};
 ghost use Prim.Native.Nat.{_<_, _≤_, min};
 ghost use lib.ListN.{drop};

@@ -11,11 +11,11 @@ use Rattle.answer.specs.declared.Refusal.{Refusal}
 use Rattle.answer.specs.declared.Sides.{Sides}
 use Rattle.answer.specs.declared.Sides.the-variants as Sides·case
 use Rattle.leaf_bytes.specs.Leaf.{Leaves}
-use Rattle.node_text.specs.Info.{info, Summed}
-use Rattle.node_text.specs.declared.text_info.TextInfo.{TextInfo}
-use Rattle.node_text.specs.declared.text_info.TextSum.{TextSum}
-use Rattle.node_text.specs.declared.text_info.Info.{Info}
-use Rattle.node_text.specs.declared.text_info.Info.the-variants as Info·case
+use Rattle.text_info.specs.Info.{info, Summed}
+use Rattle.text_info.specs.declared.TextInfo.{TextInfo}
+use Rattle.text_info.specs.declared.TextSum.{TextSum}
+use Rattle.text_info.specs.declared.Info.{Info}
+use Rattle.text_info.specs.declared.Info.the-variants as Info·case
 use Rattle.text_c.specs.Told.{code}
 use Rattle.leaf_c.specs.Told.{LeavesTold, InfoTold, SumTold}
 

@@ -6,9 +6,9 @@ use Prim.Native.Nat.{ℕ}
 use lib.ListN.{length}
 use Rattle.plain.specs.Outcome.{Outcome, kept, mapped}
 use Rattle.leaf_bytes.specs.Leaf.{written}
-use Rattle.node_text.specs.Info.{Summed}
-use Rattle.node_text.specs.declared.text_info.TextInfo.{TextInfo}
-use Rattle.node_text.specs.declared.text_info.TextSum.{TextSum}
+use Rattle.text_info.specs.Info.{Summed}
+use Rattle.text_info.specs.declared.TextInfo.{TextInfo}
+use Rattle.text_info.specs.declared.TextSum.{TextSum}
 use Rattle.text_c.specs.Told.{code}
 
 -- two leaves: their lengths, and what is left of the two regions

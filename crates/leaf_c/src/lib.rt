@@ -1,10 +1,10 @@
 // The leaf's calls and counts for C and Rust to link.
 use answer::Sides;
-use node_text::text_info::Info;
-use node_text::text_info::TextInfo;
-use node_text::text_info::TextSum;
+use text_info::Info;
+use text_info::TextInfo;
+use text_info::TextSum;
 ghost use Rattle.leaf_calls.specs.Asked.{askedBy};
-ghost use Rattle.node_text.specs.Info.{leafInfo};
+ghost use Rattle.text_info.specs.Info.{leafInfo};
 ghost use Rattle.leaf_c.specs.Told.{LeavesTold, InfoTold, SumTold};
 
 // The call with a number, as `leaf_calls` has them. It returns 0 and writes the lengths of the two leaves; or it returns document 01's

@@ -71,9 +71,9 @@ fn ask(
             right,
             right_len,
         ),
-        Call::InsertStrSplit => node_text::insert_str_split(left, len, start, piece, right),
+        Call::InsertStrSplit => leaf_split::insert_str_split(left, len, start, piece, right),
         Call::PushStr => beside(node_text::push_str(left, len, piece), right, right_len),
-        Call::PushStrSplit => node_text::push_str_split(left, len, piece, right),
+        Call::PushStrSplit => leaf_split::push_str_split(left, len, piece, right),
         Call::Truncate => beside(node_text::truncate(left, len, start), right, right_len),
         Call::TruncateFront => beside(
             node_text::truncate_front(left, len, start),
@@ -85,8 +85,8 @@ fn ask(
             right,
             right_len,
         ),
-        Call::SplitOff => node_text::split_off(left, len, start, right),
-        Call::FixSegmentSeam => node_text::fix_segment_seam(left, len, right, right_len),
+        Call::SplitOff => leaf_split::split_off(left, len, start, right),
+        Call::FixSegmentSeam => leaf_split::fix_segment_seam(left, len, right, right_len),
     }
 }
 

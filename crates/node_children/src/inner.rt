@@ -2,8 +2,8 @@
 // every entry behind its children, whatever the lists given have there. The Rust has a module `inner` for its `push`, `pop`, `insert`
 // and `remove`, over memory that is not set.
 use crate::NodeChildren;
-use node_text::text_info::TextInfo;
 use pool::Kid;
+use text_info::TextInfo;
 ghost use mathlib.Core.Path.{_≡_};
 ghost use mathlib.Core.List.{[], _∷_, _++_};
 ghost use Prim.Native.Nat.{_+_, _-_, _<_, _≤_};

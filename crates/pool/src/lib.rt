@@ -11,7 +11,7 @@ use answer::Number;
 use answer::Refusal;
 use answer::Verdict;
 use leaf_bytes::MAX_BYTES;
-use node_text::text_info::TextInfo;
+use text_info::TextInfo;
 ghost use mathlib.Core.Path.{_≡_};
 ghost use mathlib.Core.List.{[], _∷_};
 ghost use Prim.Native.Nat.{_+_, _≤_};

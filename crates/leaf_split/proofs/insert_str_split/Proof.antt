@@ -4,10 +4,10 @@ use native.Mathlib.Omega.{arith}
 use lib.ListN.{length-take}
 use lib.Seq.{length-take-le}
 use Rattle.leaf_bytes.proofs.Rules.{leaves-refused, leaves-same}
 use Rattle.node_text.proofs.Checks.{insert-refused, insert-halves}
 use borrow.Author.Needs.{needs}
-use Rattle.node_text.proofs.insert_str_split.Statement.{statement}
-use Rattle.node_text.proofs.insert_str_split.Tie as tie
+use Rattle.leaf_split.proofs.insert_str_split.Statement.{statement}
+use Rattle.leaf_split.proofs.insert_str_split.Tie as tie
 
 held-requires : tie.Need-held-requires
 held-requires c κs = search needs

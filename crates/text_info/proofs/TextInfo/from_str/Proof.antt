@@ -3,10 +3,10 @@ use mathlib.Core.Path.{refl, sym, _∙_}
 use native.Mathlib.Omega.{arith}
 use borrow.Author.Tests.{not-true, not-false}
 use Rattle.plain.specs.Place.{isStart, isWide}
-use Rattle.node_text.proofs.Counts.{count-le, breaks-le, info-bad, info-long, info-is}
+use Rattle.text_info.proofs.Counts.{count-le, breaks-le, info-bad, info-long, info-is}
 use borrow.Author.Needs.{needs}
-use Rattle.node_text.proofs.text_info.TextInfo.from_str.Statement.{statement}
-use Rattle.node_text.proofs.text_info.TextInfo.from_str.Tie as tie
+use Rattle.text_info.proofs.TextInfo.from_str.Statement.{statement}
+use Rattle.text_info.proofs.TextInfo.from_str.Tie as tie
 
 valid-requires : tie.Need-valid-requires
 valid-requires c κs = search needs

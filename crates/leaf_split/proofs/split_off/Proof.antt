@@ -4,10 +4,10 @@ use native.Mathlib.Omega.{arith}
 use lib.ListN.{length-take}
 use lib.Seq.{length-take-le}
 use Rattle.leaf_bytes.proofs.Rules.{leaves-refused, leaves-same}
 use Rattle.node_text.proofs.Checks.{split-refused, split-parts}
 use borrow.Author.Needs.{needs}
-use Rattle.node_text.proofs.split_off.Statement.{statement}
-use Rattle.node_text.proofs.split_off.Tie as tie
+use Rattle.leaf_split.proofs.split_off.Statement.{statement}
+use Rattle.leaf_split.proofs.split_off.Tie as tie
 
 held-requires : tie.Need-held-requires
 held-requires c κs = search needs

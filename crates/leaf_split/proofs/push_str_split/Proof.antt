@@ -2,10 +2,10 @@
 use Prim.Native.Nat.{ℕ}
 use mathlib.Core.Path.{ap}
 use Rattle.leaf_bytes.proofs.Rules.{leaves-same}
 use Rattle.node_text.specs.Texts.{insertedSplit}
 use borrow.Author.Needs.{needs}
-use Rattle.node_text.proofs.push_str_split.Statement.{statement}
-use Rattle.node_text.proofs.push_str_split.Tie as tie
+use Rattle.leaf_split.proofs.push_str_split.Statement.{statement}
+use Rattle.leaf_split.proofs.push_str_split.Tie as tie
 
 held-requires : tie.Need-held-requires
 held-requires c κs = search needs

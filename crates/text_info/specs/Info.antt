@@ -9,10 +9,10 @@ use Rattle.plain.specs.Count.{countIf, breaks}
 use Rattle.plain.specs.Place.{isPair, bytes}
 use Rattle.plain.specs.Outcome.{Outcome, Outcome.value, Outcome.refused, ruled, past}
 use Rattle.answer.specs.Answers.{refusalNumber}
-use Rattle.node_text.specs.declared.text_info.TextInfo.{TextInfo}
-use Rattle.node_text.specs.declared.text_info.TextSum.{TextSum}
-use Rattle.node_text.specs.declared.text_info.Info.{Info}
-use Rattle.node_text.specs.declared.text_info.Info.the-variants as Info·case
+use Rattle.text_info.specs.declared.TextInfo.{TextInfo}
+use Rattle.text_info.specs.declared.TextSum.{TextSum}
+use Rattle.text_info.specs.declared.Info.{Info}
+use Rattle.text_info.specs.declared.Info.the-variants as Info·case
 
 abbrev pub info : Info → Outcome TextInfo
 info (Info·case.Is i) = value i

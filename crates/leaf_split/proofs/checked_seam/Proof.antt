@@ -1,10 +1,10 @@
 -- `checked_seam` meets its contract: each test is a rule.
 use mathlib.Core.Path.{sym, _∙_}
 use borrow.Author.Tests.{not-true, not-false}
 use Rattle.node_text.proofs.Checks.{left-empty, right-empty, left-bad, right-bad, seam-good}
 use borrow.Author.Needs.{needs}
-use Rattle.node_text.proofs.checked_seam.Statement.{statement}
-use Rattle.node_text.proofs.checked_seam.Tie as tie
+use Rattle.leaf_split.proofs.checked_seam.Statement.{statement}
+use Rattle.leaf_split.proofs.checked_seam.Tie as tie
 
 returns : tie.Need-returns
 returns c = left-empty (c .before .before .before .args .l .now) (c .before .before .before .args .r .now) _ (c .if1 .taken)

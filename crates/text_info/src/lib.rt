@@ -7,7 +7,7 @@ use str_indices::chars;
 use str_indices::lines_crlf;
 use str_indices::utf16;
 ghost use mathlib.Core.Path.{_≡_};
-ghost use Rattle.node_text.specs.Info.{info, leafInfo, zeros, Summed};
+ghost use Rattle.text_info.specs.Info.{info, leafInfo, zeros, Summed};
 
 // The counts of one text.
 pub struct TextInfo {
