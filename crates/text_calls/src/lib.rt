@@ -84,8 +84,8 @@ fn seam_at(index: usize, text: &[u8]) -> Number
 fn trimmed_len(text: &[u8]) -> Number
     ensures { λ r. ⌜ number r ≡ ofText (now (text .entry)) (λ cs. bytes (trimmed cs)) ⌝ }
 {
-    match str_utils::trim_line_break_refusal(text) {
-        Verdict::Accepted => Number::Is(str_utils::trim_line_break(text).len()),
+    match str_ends::trim_line_break_refusal(text) {
+        Verdict::Accepted => Number::Is(str_ends::trim_line_break(text).len()),
         Verdict::Refused(r) => Number::Refused(r),
     }
 }
@@ -111,9 +111,9 @@ fn ask(call: Call, index: usize, bias_left: bool, text: &[u8]) -> Number
         Call::LineToCharIdx => str_utils::line_to_char_idx(text, index),
         Call::ByteToUtf16SurrogateIdx => str_utils::byte_to_utf16_surrogate_idx(text, index),
         Call::Utf16CodeUnitToCharIdx => str_utils::utf16_code_unit_to_char_idx(text, index),
-        Call::LastLineStartByteIdx => str_utils::last_line_start_byte_idx(text),
+        Call::LastLineStartByteIdx => str_ends::last_line_start_byte_idx(text),
         Call::TrimLineBreak => trimmed_len(text),
-        Call::EndsWithLineBreak => truth_as_number(str_utils::ends_with_line_break(text)),
+        Call::EndsWithLineBreak => truth_as_number(str_ends::ends_with_line_break(text)),
         Call::Valid => Number::Is(utf8::valid(text) as usize),
     }
 }

@@ -1,4 +1,4 @@
--- `str_utils::trim_line_break` meets its contract: an empty part where the text is refused, else the bytes before the break that ends it.
+-- `str_ends::trim_line_break` meets its contract: an empty part where the text is refused, else the bytes before the break that ends it.
 use mathlib.Core.Path.{sym, ap, _∙_}
 use Prim.Native.Nat.{ℕ, _-_}
 use native.Mathlib.Omega.{arith}
@@ -8,9 +8,9 @@ use lib.ListN.{length, take}
 use lib.Seq.{length-take-le}
 use Rattle.plain.specs.Count.{trimmed}
 use Rattle.plain.proofs.Place.{trim-encode}
 use Rattle.str_utils.proofs.Laws.{part-refused, part-is}
-use Rattle.str_utils.proofs.trim_line_break.Statement.{statement}
-use Rattle.str_utils.proofs.trim_line_break.Tie as tie
+use Rattle.str_ends.proofs.trim_line_break.Statement.{statement}
+use Rattle.str_ends.proofs.trim_line_break.Tie as tie
 
 valid-requires : tie.Need-valid-requires
 valid-requires c κs = search needs

@@ -1,9 +1,9 @@
--- `str_utils::trim_line_break_refusal` meets its contract: what `utf8::valid` ensures.
+-- `str_ends::trim_line_break_refusal` meets its contract: what `utf8::valid` ensures.
 use mathlib.Core.Path.{refl, sym, _∙_}
 use borrow.Author.Needs.{needs}
 use Rattle.str_utils.proofs.Laws.{text-refused, text-is}
-use Rattle.str_utils.proofs.trim_line_break_refusal.Statement.{statement}
-use Rattle.str_utils.proofs.trim_line_break_refusal.Tie as tie
+use Rattle.str_ends.proofs.trim_line_break_refusal.Statement.{statement}
+use Rattle.str_ends.proofs.trim_line_break_refusal.Tie as tie
 
 valid-requires : tie.Need-valid-requires
 valid-requires c κs = search needs

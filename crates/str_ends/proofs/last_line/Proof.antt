@@ -1,10 +1,10 @@
--- `str_utils::last_line` meets its contract. The loop's invariant: no break, and no LF, stands behind the index.
+-- `str_ends::last_line` meets its contract. The loop's invariant: no break, and no LF, stands behind the index.
 use Prim.Native.Nat.{_-_, _≤_}
 use native.Mathlib.Omega.{arith}
 use lib.ListN.{length}
 use Rattle.str_utils.proofs.Laws.{NoBreak, no-break-end, no-break-down, last-lf, last-cr, last-none}
-use Rattle.str_utils.proofs.last_line.Statement.{statement}
-use Rattle.str_utils.proofs.last_line.Tie as tie
+use Rattle.str_ends.proofs.last_line.Statement.{statement}
+use Rattle.str_ends.proofs.last_line.Tie as tie
 
 abbrev Inv-loop : tie.InvT-loop
 Inv-loop text idx₀ idx = (idx ≤ length text) × NoBreak text idx

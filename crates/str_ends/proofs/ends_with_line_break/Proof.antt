@@ -1,13 +1,13 @@
--- `str_utils::ends_with_line_break` meets its contract: the break that ends the bytes is the one that ends the text.
+-- `str_ends::ends_with_line_break` meets its contract: the break that ends the bytes is the one that ends the text.
 use mathlib.Core.Path.{sym, ap, _∙_}
 use Prim.Native.Nat.{ℕ}
 use borrow.Author.Needs.{needs}
 use lib.Dec.{ltb}
 use Rattle.plain.specs.Count.{tailBreak}
 use Rattle.plain.proofs.Text.{tail-encode}
 use Rattle.str_utils.proofs.Laws.{text-refused, text-is}
-use Rattle.str_utils.proofs.ends_with_line_break.Statement.{statement}
-use Rattle.str_utils.proofs.ends_with_line_break.Tie as tie
+use Rattle.str_ends.proofs.ends_with_line_break.Statement.{statement}
+use Rattle.str_ends.proofs.ends_with_line_break.Tie as tie
 
 valid-requires : tie.Need-valid-requires
 valid-requires c κs = search needs

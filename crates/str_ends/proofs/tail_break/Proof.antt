@@ -1,11 +1,11 @@
--- `str_utils::tail_break` meets its contract: the cases of the last two bytes.
+-- `str_ends::tail_break` meets its contract: the cases of the last two bytes.
 use Prim.Native.Nat.{_-_}
 use native.Mathlib.Omega.{arith}
 use borrow.Author.Needs.{needs}
 use lib.ListN.{length}
 use Rattle.str_utils.proofs.Laws.{tail-empty, tail-cr, tail-other, tail-lf-alone, tail-cr-lf, tail-only-lf}
-use Rattle.str_utils.proofs.tail_break.Statement.{statement}
-use Rattle.str_utils.proofs.tail_break.Tie as tie
+use Rattle.str_ends.proofs.tail_break.Statement.{statement}
+use Rattle.str_ends.proofs.tail_break.Tie as tie
 
 returns : tie.Need-returns
 returns c = (tail-empty (c .before .args .text .now) (omega arith), omega arith)
