@@ -8,9 +8,8 @@ ghost use mathlib.Core.List.{[], _∷_};
 ghost use lib.ListN.{length};
 ghost use Rattle.plain.specs.Outcome.{ruled};
 ghost use Rattle.answer.specs.Answers.{number};
-ghost use Rattle.leaf_bytes.specs.Leaf.{leafOf, Leaf, Leaves};
-ghost use Rattle.leaf_bytes.specs.Raw.{noSide};
-ghost use Rattle.node_text.specs.Texts.{offChars, noText, edited, splitOff, insertedSplit, seamFixed};
+ghost use Rattle.leaf_bytes.specs.Leaf.{leafOf, Leaf};
+ghost use Rattle.node_text.specs.Texts.{offChars, noText, edited};
 
 // How many bytes the leaf has: no more than its region.
 pub fn held(region: &[u8], len: usize) -> usize
