@@ -44,7 +44,7 @@ pub fn checked(leaf: &[u8], start: usize, end: usize, piece: &[u8]) -> Number
 }
 
 // The bytes [start, end) of a leaf give way to a piece.
-fn edit(region: &mut [u8], len: usize, start: usize, end: usize, piece: &[u8]) -> Number
+pub fn edit(region: &mut [u8], len: usize, start: usize, end: usize, piece: &[u8]) -> Number
     ensures { λ r. ⌜ Leaf (edited (now (region .entry)) len start end (now (piece .entry))) (now (region .entry)) r (now (region .exit)) ⌝ }
 {
     let n = held(region, len);

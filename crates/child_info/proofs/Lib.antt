@@ -1,0 +1,5 @@
+pub mod Turns
+pub mod Counted
+pub mod Renewing
+pub mod Rules
+pub mod Found

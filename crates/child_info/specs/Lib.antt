@@ -1,0 +1,4 @@
+pub mod Kin
+pub mod Leaves
+pub mod Renewed
+pub mod Calls

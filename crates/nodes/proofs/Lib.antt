@@ -1,0 +1,7 @@
+pub mod Heads
+pub mod Rules
+pub mod Laid
+pub mod Copied
+pub mod Put
+pub mod Halved
+pub mod Accepted

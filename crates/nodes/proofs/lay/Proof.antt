@@ -1,0 +1,69 @@
+-- `lay` meets its contract: the text is put where nothing was, and then the head is set.
+use mathlib.Core.Path.{refl}
+use native.Mathlib.Omega.{arith}
+use Rattle.pool.proofs.Opened.{region-opened}
+use Rattle.nodes.proofs.Heads.{inside}
+use Rattle.nodes.proofs.Laid.{region-there, lay-done}
+use borrow.Author.Needs.{needs}
+use Rattle.nodes.proofs.lay.Statement.{statement}
+use Rattle.nodes.proofs.lay.Tie as tie
+
+region-start-requires : tie.Need-region-start-requires
+region-start-requires c κs = search needs
+
+enum-known-at : tie.Need-enum-known-at
+enum-known-at c = search needs
+
+enum-told : tie.Need-enum-told
+enum-told c = search needs
+
+same-length : tie.Need-same-length
+same-length c = search needs
+
+returns : tie.Need-returns
+returns c = let a = c .before .before .before .before .before .before .args in absurd (region-there (c .before .before .region-start .result) (a .m .now) (a .slot) _ (c .before .before .region-start .ensures) (c .enum-told .given .1) (inside (a .m .now) (a .slot) (c .before .before .before .before .before .before .pre .0)))
+
+add-replace : tie.Need-add-replace
+add-replace c = let a = c .before .before .before .before .before .before .before .args in omega (arith, region-opened (c .before .before .before .region-start .result) (a .m .now) (a .slot) _ (c .before .before .before .region-start .ensures) (c .before .at .given .1))
+
+sub-replace : tie.Need-sub-replace
+sub-replace c = search needs
+
+part-replace-start : tie.Need-part-replace-start
+part-replace-start c = search needs
+
+part-replace-end : tie.Need-part-replace-end
+part-replace-end c = let a = c .before .before .before .before .before .before .before .args in omega (arith, region-opened (c .before .before .before .region-start .result) (a .m .now) (a .slot) _ (c .before .before .before .region-start .ensures) (c .before .at .given .1))
+
+replace-requires : tie.Need-replace-requires
+replace-requires c κs = search needs
+
+set-leaf-requires : tie.Need-set-leaf-requires
+set-leaf-requires c κs = search needs
+
+same-length-2 : tie.Need-same-length-2
+same-length-2 c = search needs
+
+returns-2 : tie.Need-returns-2
+returns-2 c =
+    let a = c .before .before .before .before .before .before .before .before .before .before .before .before .before .before .before .args in
+    let o = region-opened (c .before .before .before .before .before .before .before .before .before .before .before .region-start .result) (a .m .now) (a .slot) _ (c .before .before .before .before .before .before .before .before .before .before .before .region-start .ensures) (c .before .before .before .before .before .before .before .before .before .at .given .1) in
+    lay-done (a .m .now) (a .slot) (o .0) _ _ (o .1) refl (a .text .now) (c .before .before .before .before .before .before .replace .result) _ (c .before .before .before .before .before .before .before .before .before .before .before .before .before .before .before .pre .1) (c .before .before .before .before .before .before .replace .ensures) (c .before .before .set-leaf .result) _ (c .before .before .set-leaf .ensures)
+
+pub lay-spec : {M : Type 1} → statement M
+lay-spec =
+    tie.close
+    (tie.spec
+    region-start-requires
+    enum-known-at
+    enum-told
+    same-length
+    returns
+    add-replace
+    sub-replace
+    part-replace-start
+    part-replace-end
+    replace-requires
+    set-leaf-requires
+    same-length-2
+    returns-2)
