@@ -3,3 +3,4 @@ pub mod Counted
 pub mod Renewing
 pub mod Rules
 pub mod Found
+pub mod TextRead

@@ -36,7 +36,7 @@ pub enum FoundRange {
 }
 
 // What a search counts. `CharEnds` is for the end of a range: a child that ends there is its last.
-enum Measure {
+pub enum Measure {
     Bytes,
     Chars,
     Utf16,

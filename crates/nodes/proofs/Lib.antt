@@ -5,3 +5,4 @@ pub mod Copied
 pub mod Put
 pub mod Halved
 pub mod Accepted
+pub mod Fitted

@@ -1,0 +1,9 @@
+pub mod Packed
+pub mod Edits
+pub mod Parts
+pub mod Loops
+pub mod Packing
+pub mod Relisted
+pub mod Called
+pub mod Texts
+pub mod Compacted

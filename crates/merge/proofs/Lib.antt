@@ -1,0 +1,5 @@
+pub mod Joins
+pub mod JoinedLists
+pub mod Settled
+pub mod Ready
+pub mod Merged
