@@ -38,12 +38,12 @@ const FULL_LEAF: leaf::Extent = leaf::Extent {
 };
 
 const FULL_LIST: list::Extent = list::Extent {
-    edited: 2_000,
-    searched: 1_000,
+    edited: 3_000,
+    searched: 3_000,
     around: 3,
-    packed: 300_000,
-    paired: 300,
-    spoilt: 300,
+    packed: 200_000,
+    paired: 1_000,
+    spoilt: 500,
 };
 
 const SHORT: Extent = Extent {

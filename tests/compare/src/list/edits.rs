@@ -31,7 +31,8 @@ pub fn two_slots(random: &mut Random, slots: usize) -> (usize, usize) {
     (slot, (slot + 1 + random.below(slots - 1)) % slots)
 }
 
-/// One list of each length, in a memory of noise: every call that takes it by value, at every index.
+/// One list of each length, in a memory of noise: every call that takes it by value, at every
+/// index.
 pub fn run(group: &mut Group, random: &mut Random) {
     for len in 0..=MAX_CHILDREN {
         let (slot, other) = two_slots(random, SLOTS);

@@ -1,7 +1,5 @@
 //! The lent memory: 6,144 bytes of head, then slots of 640 bytes, one node in each.
 
-use std::convert::TryInto;
-
 pub const MAX_BYTES: usize = 512;
 pub const MAX_CHILDREN: usize = 16;
 
@@ -110,15 +108,17 @@ pub fn put_leaf(memory: &mut [u8], slot: usize, text: &[u8]) {
 
 /// A memory of this many slots, of bytes that tell every move.
 pub fn noise(slots: usize) -> Vec<u8> {
-    noise_of(HEAD + SLOT * slots)
+    let mut memory = vec![0; HEAD + SLOT * slots];
+    for (row, bytes) in memory.chunks_mut(256).enumerate() {
+        for (at, byte) in bytes.iter_mut().enumerate() {
+            *byte = (at as u8).wrapping_mul(37).wrapping_add(row as u8) ^ 0xA5;
+        }
+    }
+    memory
 }
 
-pub fn noise_of(len: usize) -> Vec<u8> {
-    (0..len).map(|i| (i * 37 + i / 256) as u8 ^ 0xA5).collect()
-}
-
-/// Spoils what is not read of a list: the head's second byte and next slot, and the entries behind the
-/// children.
+/// Spoils what is not read of a list: the head's second byte and next slot, and the entries behind
+/// the children.
 pub fn spoil(memory: &mut [u8], slot: usize, len: usize) {
     let start = HEAD + SLOT * slot;
     let behind = start + REGION + ENTRY * len..start + REGION + ENTRY * MAX_CHILDREN;

@@ -1,4 +1,5 @@
-//! Lists with their children's nodes: leaves and lists that are merged, shared out, packed and counted.
+//! Lists with their children's nodes: leaves and lists that are merged, shared out, packed and
+//! counted.
 
 use super::calls::Call::*;
 use super::calls::Case;
@@ -21,7 +22,8 @@ pub struct Made {
 }
 
 impl Made {
-    /// In a memory of noise with two slots more than there are children, whose counts are the true ones.
+    /// In a memory of noise with two slots more than there are children, whose counts are the true
+    /// ones.
     pub fn of(random: &mut Random, children: &[Child]) -> Self {
         Self::within(memory::noise(children.len() + 2), random, children)
     }
@@ -101,7 +103,8 @@ fn two(group: &mut Group, random: &mut Random, left: &[u8], right: &[u8]) {
     group.compare(&made.case().at(CompactLeaves, 0, 0));
 }
 
-/// Every short text around the half of two leaves and around the end of a full one, cut in two at many places.
+/// Every short text around the half of two leaves and around the end of a full one, cut in two at
+/// many places.
 pub fn around_half(group: &mut Group, most: usize) {
     let random = &mut Random::new();
     every_string(&CHARS.map(str::as_bytes), most, &mut |text| {
@@ -201,8 +204,8 @@ pub fn pairs(group: &mut Group, random: &mut Random) {
     }
 }
 
-/// Two lists whose counts are small, or all the greatest, or add up to 32 bits or one more where they are put
-/// together.
+/// Two lists whose counts are small, or all the greatest, or add up to 32 bits or one more where
+/// they are put together.
 fn lists(random: &mut Random, left: usize, right: usize) -> (Vec<Kid>, Vec<Kid>) {
     let total = left + right;
     let most = random.pick(&[4, 1 << 10, 1 << 20]);
@@ -291,11 +294,16 @@ pub fn any(group: &mut Group, random: &mut Random) {
         }
     }
     let is_alike = leaves == 0 || leaves == len;
+    if is_alike {
+        let (i, j) = (random.pick(&FAR), random.pick(&[0, 1, FAR[0], FAR[1]]));
+        group.compare(&made.case().at(MergeDistribute, i, j));
+    }
     for _ in 0..4 {
         let i = random.below(len.max(1));
         let any = random.below(len + 2);
         let j = random.pick(&[i + 1, i + 1, any.max(i + 1), any, len, FAR[0]]);
-        // Of children of two kinds, only pairs that rise are asked: which refusal comes first is not at issue.
+        // Of children of two kinds, only pairs that rise are asked: which refusal comes first is
+        // not at issue.
         if is_alike || (i < j && j < len) {
             group.compare(&made.case().at(MergeDistribute, i, j));
         }

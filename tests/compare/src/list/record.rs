@@ -1,12 +1,12 @@
 //! The calls on lists in the sample.
 //!
-//! A record, numbers big-endian: function 1 (31 and the call's number), i 2, j 2, slot 1, other 1, the number n 1 of the
-//! memory's slots (at most 7), the child that is put in 20 (an entry: slot and four counts), the n slots; then what is due:
-//! refusal 1 (0: accepted), the five numbers 4 each (0 where refused), the number 1 of slots that the call changes, and
-//! for each its number 1 and the slot as it is afterwards. A slot is its head 8, a length 2, and as many bytes from the
-//! front of its region; the rest of its 640 bytes is zeros, and so are the 6,144 bytes before the slots.
-
-use std::convert::TryFrom;
+//! A record, numbers big-endian: function 1 (31 and the call's number), i 2, j 2, slot 1, other 1,
+//! the number n 1 of the memory's slots (at most 7), the child that is put in 20 (an entry: slot
+//! and four counts), the n slots; then what is due: refusal 1 (0: accepted), the five numbers 4
+//! each (0 where refused), the number 1 of slots that the call changes, and for each its number 1
+//! and the slot as it is afterwards. A slot is its head 8, a length 2, and as many bytes from the
+//! front of its region; the rest of its 640 bytes is zeros, and so are the 6,144 bytes before the
+//! slots.
 
 use super::calls::Call::{self, *};
 use super::calls::{Case, CALLS, MARGIN};

@@ -81,7 +81,8 @@ fn cut_memory(group: &mut Group, random: &mut Random) {
     }
 }
 
-/// The calls on two lists, with the other slot outside the memory or the same, beside what else they refuse.
+/// The calls on two lists, with the other slot outside the memory or the same, beside what else
+/// they refuse.
 fn other_slot(group: &mut Group, random: &mut Random) {
     for len in [0, 1, 2, MAX_CHILDREN] {
         let slot = random.below(3);

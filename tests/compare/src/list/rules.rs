@@ -1,4 +1,5 @@
-//! What is due: what the source leaves, laid into the memory, or a refusal by the table of document 01.
+//! What is due: what the source leaves, laid into the memory, or a refusal by the table of document
+//! 01.
 
 use super::calls::Call::{self, *};
 use super::calls::{with_margins, After, Case, UNTOUCHED};
@@ -42,13 +43,12 @@ pub fn panic_is_due(case: &Case, source: &Source) -> bool {
     let is_unseen = matches!(refusal, MEMORY | TEXT);
     match source {
         Source::Done(_) => refusal == 0 || is_unseen || is_left_alone(case),
-        Source::Panicked => refusal != 0,
-        Source::NotAsked => refusal != 0,
+        Source::Panicked | Source::NotAsked => refusal != 0,
     }
 }
 
-/// `compact_leaves` of the source looks at the first child alone, and leaves a list that begins with
-/// a list as it is, also if leaves follow: document 01 has 12 for siblings of different kinds.
+/// `compact_leaves` of the source looks at the first child alone, and leaves a list that begins
+/// with a list as it is, also if leaves follow: document 01 has 12 for siblings of different kinds.
 fn is_left_alone(case: &Case) -> bool {
     let kids = memory::list(case.memory, case.slot).unwrap_or_default();
     let first = kids
@@ -199,8 +199,8 @@ fn of_child(memory: &[u8], kid: &Kid) -> Refusals {
     }
 }
 
-/// Children that are put together: nodes of one kind, leaves that are text, and all in slots of their own
-/// beside the list's. What does not fit 32 bits afterwards shows in the source's answer.
+/// Children that are put together: nodes of one kind, leaves that are text, and all in slots of
+/// their own beside the list's. What does not fit 32 bits afterwards shows in the source's answer.
 fn of_siblings(case: &Case, kids: &[Kid]) -> Refusals {
     let mut slots: Vec<usize> = kids.iter().map(|kid| kid.slot as usize).collect();
     slots.push(case.slot);

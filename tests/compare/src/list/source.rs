@@ -1,5 +1,5 @@
-//! The source crate's child lists, built from what lies in the memory. Its children are nodes of their own, and the
-//! slots go with them by their addresses.
+//! The source crate's child lists, built from what lies in the memory. Its children are nodes of
+//! their own, and the slots go with them by their addresses.
 
 use std::str;
 
