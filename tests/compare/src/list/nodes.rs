@@ -213,19 +213,22 @@ fn lists(random: &mut Random, left: usize, right: usize) -> (Vec<Kid>, Vec<Kid>)
     match random.below(4) {
         0 => kids.iter_mut().for_each(|kid| kid.counts = [u32::MAX; 4]),
         1 if total > 0 => {
-            let field = random.below(4);
-            let ends = match total {
-                0..=MAX_CHILDREN => total,
-                _ => total - total / 2,
+            // One list afterwards; the count in question is none elsewhere, so that no list has
+            // more of it before.
+            let half = total - total / 2;
+            let (from, to) = match total {
+                0..=MAX_CHILDREN => (0, total),
+                _ => random.pick(&[(0, half), (half, total)]),
             };
-            // Counts that leave the left list are none, so that its sum is no greater before.
-            for kid in kids.iter_mut().take(left).skip(ends) {
-                kid.counts[field] = 0;
+            let field = random.below(4);
+            for (k, kid) in kids.iter_mut().enumerate() {
+                if k < from || k >= to {
+                    kid.counts[field] = 0;
+                }
             }
-            let rest = sums(&kids[1..ends])[field];
-            kids[0].counts[field] = u32::MAX - rest;
-            if random.below(2) == 0 && ends > 1 {
-                kids[1].counts[field] += 1;
+            kids[from].counts[field] = u32::MAX - sums(&kids[from + 1..to])[field];
+            if random.below(2) == 0 {
+                kids[to - 1].counts[field] = kids[to - 1].counts[field].saturating_add(1);
             }
         }
         _ => {}
