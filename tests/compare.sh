@@ -1,6 +1,6 @@
 #!/bin/sh
 # compare.sh [--short | --record FILE]   compares the proved library with the source crate.
-#   no word: every comparison (two or three minutes). --short: a few seconds. --record FILE: writes a sample of the source's answers.
+#   no word: every comparison (four or five minutes). --short: a few seconds. --record FILE: writes a sample of the source's answers.
 # ORACLE=FOLDER      the folder that holds prepare.sh (default: ../shared/oracle beside the repository)
 # TEXT_C_DIR=FOLDER  link the libtext_c.a, libleaf_c.a and liblist_c.a there instead of proving and building them
 set -eu

@@ -39,11 +39,11 @@ const FULL_LEAF: leaf::Extent = leaf::Extent {
 
 const FULL_LIST: list::Extent = list::Extent {
     edited: 3_000,
-    searched: 3_000,
+    searched: 5_000,
     around: 3,
-    packed: 200_000,
+    packed: 60_000,
     paired: 1_000,
-    spoilt: 500,
+    spoilt: 200,
 };
 
 const SHORT: Extent = Extent {
