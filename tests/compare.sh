@@ -1,8 +1,8 @@
 #!/bin/sh
 # compare.sh [--short | --record FILE]   compares the proved library with the source crate.
-#   no word: every comparison (two or three minutes). --short: a few seconds. --record FILE: writes a sample of the source's answers.
+#   no word: every comparison (four or five minutes). --short: a few seconds. --record FILE: writes a sample of the source's answers.
 # ORACLE=FOLDER      the folder that holds prepare.sh (default: ../shared/oracle beside the repository)
-# TEXT_C_DIR=FOLDER  link the libtext_c.a and libleaf_c.a there instead of proving and building them
+# TEXT_C_DIR=FOLDER  link the libtext_c.a, libleaf_c.a and liblist_c.a there instead of proving and building them
 set -eu
 root=$(cd "$(dirname "$0")/.." && pwd)
 oracle=${ORACLE:-$root/../shared/oracle}
@@ -44,6 +44,10 @@ mkdir -p target
 
 # Laid out anew each time, but put in place only if it changed: cargo would build it again.
 bash "$oracle/prepare.sh" target/oracle.new >target/oracle.log
+# The oracle's probe.rs opens lists of leaves alone: one more module opens the source's child lists with children of both kinds.
+mkdir target/oracle.new/gen/probe
+cp tests/compare/probe/lists.rs target/oracle.new/gen/probe/
+echo 'pub mod lists;' >>target/oracle.new/gen/probe.rs
 if diff -rq -x EDITS.diff target/oracle.new target/oracle >/dev/null 2>&1; then
     rm -rf target/oracle.new
 else
@@ -54,6 +58,7 @@ fi
 if [ -z "${TEXT_C_DIR-}" ]; then
     rt staticlib text_c
     rt staticlib leaf_c
+    rt staticlib list_c
     TEXT_C_DIR=$root/target/staticlib
 fi
 export TEXT_C_DIR

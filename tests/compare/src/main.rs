@@ -7,8 +7,10 @@
 mod calls;
 mod groups;
 mod leaf;
+mod list;
 mod oracle;
 mod ours;
+mod panics;
 mod record;
 mod tally;
 mod texts;
@@ -35,6 +37,15 @@ const FULL_LEAF: leaf::Extent = leaf::Extent {
     counted: 6,
 };
 
+const FULL_LIST: list::Extent = list::Extent {
+    edited: 3_000,
+    searched: 5_000,
+    around: 3,
+    packed: 60_000,
+    paired: 1_000,
+    spoilt: 200,
+};
+
 const SHORT: Extent = Extent {
     byte_string: 4,
     char_string: 4,
@@ -53,12 +64,21 @@ const SHORT_LEAF: leaf::Extent = leaf::Extent {
     counted: 4,
 };
 
+const SHORT_LIST: list::Extent = list::Extent {
+    edited: 40,
+    searched: 45,
+    around: 2,
+    packed: 5_000,
+    paired: 5,
+    spoilt: 5,
+};
+
 fn main() -> ExitCode {
     let words: Vec<String> = std::env::args().skip(1).collect();
     let words: Vec<&str> = words.iter().map(String::as_str).collect();
     match words[..] {
-        [] => compare(&FULL, &FULL_LEAF),
-        ["--short"] => compare(&SHORT, &SHORT_LEAF),
+        [] => compare(&FULL, &FULL_LEAF, &FULL_LIST),
+        ["--short"] => compare(&SHORT, &SHORT_LEAF, &SHORT_LIST),
         ["--record", path] => match record::write(path) {
             Ok(()) => ExitCode::SUCCESS,
             Err(error) => {
@@ -73,10 +93,11 @@ fn main() -> ExitCode {
     }
 }
 
-fn compare(extent: &Extent, leaf_extent: &leaf::Extent) -> ExitCode {
+fn compare(extent: &Extent, of_leaves: &leaf::Extent, of_lists: &list::Extent) -> ExitCode {
     let mut totals = tally::Totals::default();
     groups::run(extent, &mut totals);
-    leaf::run(leaf_extent, &mut totals);
+    leaf::run(of_leaves, &mut totals);
+    list::run(of_lists, &mut totals);
     if totals.close() {
         ExitCode::SUCCESS
     } else {

@@ -1,5 +1,5 @@
 //! Writes a sample of the source's answers, to be replayed where the source cannot be run. First
-//! come the functions of the text layer, then the leaf's calls.
+//! come the functions of the text layer, then the leaf's calls, then those on child lists.
 //!
 //! A record of the text layer, numbers big-endian: function 1, index 4, bias_left 1, text length 2, text,
 //! refusal 1 (0: accepted), value 4 (0 where refused).
@@ -9,7 +9,7 @@ use std::io;
 
 use crate::calls::{Answer, Case, Func, BREAK_FUNCS, INDEX_FUNCS, WHOLE_FUNCS};
 use crate::texts::{Random, DAMAGED};
-use crate::{leaf, oracle};
+use crate::{leaf, list, oracle};
 
 /// Records of the text layer, and the most bytes that the whole sample may have.
 const RECORDS: usize = 4_000;
@@ -82,6 +82,7 @@ pub fn write(path: &str) -> io::Result<()> {
         sample.add_random(&mut random);
     }
     leaf::record::write(&mut sample);
+    list::record::write(&mut sample);
 
     assert!(
         sample.bytes.len() <= MOST_BYTES,

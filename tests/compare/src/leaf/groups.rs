@@ -4,7 +4,6 @@ use super::calls::Call::*;
 use super::calls::{Case, CALLS};
 use super::info;
 use super::rules::MAX_BYTES;
-use super::source;
 use super::tally::{Group, Tally};
 use crate::tally::Totals;
 use crate::texts::{every_string, Random, CHARS, DAMAGED};
@@ -44,7 +43,6 @@ const LONG_PIECES: [usize; 4] = [1_023, 1_024, 1_025, 1_100];
 pub fn run(extent: &Extent, totals: &mut Totals) {
     let mut random = Random::new();
     let mut tally = Tally::default();
-    source::hush_panics();
 
     let (leaf, piece) = (extent.leaf, extent.piece);
     let name = format!("leaves to {leaf} chars, pieces to {piece}");

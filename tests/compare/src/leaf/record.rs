@@ -26,7 +26,6 @@ const PIECES: [&str; 5] = ["", "\n", "\r", "xあ", "\r\n\r\n"];
 const SIZES: [usize; 5] = [1, 256, 511, 512, 513];
 
 pub fn write(sample: &mut Sample) {
-    source::hush_panics();
     let end = sample.records + RECORDS;
     for leaf in LEAVES {
         for index in 0..=leaf.len() + 1 {

@@ -1,12 +1,11 @@
 //! The source crate's leaf functions. They take texts, so bytes that are none cannot be asked about.
 
-use std::panic::{self, catch_unwind, AssertUnwindSafe};
 use std::str;
-use std::sync::atomic::{AtomicBool, Ordering};
 
 use ropey::probe;
 
 use super::calls::{Call, Case};
+use crate::panics::caught;
 
 /// What the source comes to.
 pub enum Source {
@@ -14,19 +13,6 @@ pub enum Source {
     Leaves(Vec<u8>, Vec<u8>),
     Panicked,
     NoText,
-}
-
-/// Whether the source is being asked.
-static ASKED: AtomicBool = AtomicBool::new(false);
-
-/// From here on the source's own panics are not printed: it is made to panic often.
-pub fn hush_panics() {
-    let hook = panic::take_hook();
-    panic::set_hook(Box::new(move |info| {
-        if !ASKED.load(Ordering::Relaxed) {
-            hook(info);
-        }
-    }));
 }
 
 pub fn ask(case: &Case) -> Source {
@@ -43,12 +29,9 @@ pub fn ask(case: &Case) -> Source {
         (Ok(leaf), Ok(other)) => (leaf, other),
         _ => return Source::NoText,
     };
-    ASKED.store(true, Ordering::Relaxed);
-    let leaves = catch_unwind(AssertUnwindSafe(|| leaves(case, leaf, other)));
-    ASKED.store(false, Ordering::Relaxed);
-    match leaves {
-        Ok((left, right)) => Source::Leaves(left, right),
-        Err(_) => Source::Panicked,
+    match caught(|| leaves(case, leaf, other)) {
+        Some((left, right)) => Source::Leaves(left, right),
+        None => Source::Panicked,
     }
 }
 
