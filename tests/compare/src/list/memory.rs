@@ -82,10 +82,16 @@ pub fn put_head(memory: &mut [u8], slot: usize, kind: u8, len: usize) {
 /// Writes a list: its head and all sixteen entries, zeros behind the children.
 pub fn put_list(memory: &mut [u8], slot: usize, kids: &[Kid]) {
     put_head(memory, slot, LIST, kids.len());
+    let mut all = kids.to_vec();
+    all.resize(MAX_CHILDREN, Kid::NONE);
+    put_entries(memory, slot, &all);
+}
+
+/// Writes the first entries of a list.
+pub fn put_entries(memory: &mut [u8], slot: usize, kids: &[Kid]) {
     let start = HEAD + SLOT * slot + REGION;
-    for k in 0..MAX_CHILDREN {
-        let kid = kids.get(k).copied().unwrap_or(Kid::NONE);
-        memory[start + ENTRY * k..start + ENTRY * (k + 1)].copy_from_slice(&entry(&kid));
+    for (k, kid) in kids.iter().enumerate() {
+        memory[start + ENTRY * k..start + ENTRY * (k + 1)].copy_from_slice(&entry(kid));
     }
 }
 

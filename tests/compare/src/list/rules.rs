@@ -61,7 +61,12 @@ fn is_left_alone(case: &Case) -> bool {
 fn laid(case: &Case, done: &Done) -> Result<Vec<u8>, u8> {
     let mut memory = case.memory.to_vec();
     if let Some(list) = &done.list {
-        memory::put_list(&mut memory, case.slot, &fitting(list)?);
+        let kids = fitting(list)?;
+        if renews_entries(case, done) {
+            memory::put_entries(&mut memory, case.slot, &kids);
+        } else {
+            memory::put_list(&mut memory, case.slot, &kids);
+        }
     }
     if let Some(other) = &done.other {
         memory::put_list(&mut memory, case.other, &fitting(other)?);
@@ -74,6 +79,12 @@ fn laid(case: &Case, done: &Done) -> Result<Vec<u8>, u8> {
         }
     }
     Ok(memory)
+}
+
+/// Whether the call counts children anew where they lie, and writes nothing else of the list.
+fn renews_entries(case: &Case, done: &Done) -> bool {
+    let distributes = case.call == MergeDistribute && done.numbers[0] == 0;
+    case.call == UpdateChildInfo || distributes
 }
 
 /// The entries with counts of 32 bits.
@@ -208,12 +219,10 @@ fn of_siblings(case: &Case, kids: &[Kid]) -> Refusals {
     let mut all = Refusals::default().with(MEMORY, slots.windows(2).any(|two| two[0] == two[1]));
     let (mut leaves, mut lists) = (false, false);
     for kid in kids {
+        all = all.and(of_child(case.memory, kid));
         match memory::node(case.memory, kid.slot as usize) {
-            None => all = all.with(MEMORY, true),
-            Some(Node::Leaf(text)) => {
-                leaves = true;
-                all = all.with(TEXT, std::str::from_utf8(text).is_err());
-            }
+            None => {}
+            Some(Node::Leaf(_)) => leaves = true,
             Some(Node::List(_)) => lists = true,
         }
     }
