@@ -49,8 +49,8 @@ pub record Counting (m₀ : List ℕ) (p : ℕ) (c : NodeChildren) (m : List ℕ
 
 module _ (m₀ : List ℕ) (p : ℕ) (c : NodeChildren) where
   module _ (m : List ℕ) (i : ℕ) (x : Counting m₀ p c m i) (more : i < c .len) where
-    now : Renewal m p i (renewed m p i)
-    now = done m₀ p c m i (x .rows) more
+    this-turn : Renewal m p i (renewed m p i)
+    this-turn = done m₀ p c m i (x .rows) more
 
     small : i < 16
     small = fewer m₀ p c m i (x .rows) more
@@ -59,7 +59,7 @@ module _ (m₀ : List ℕ) (p : ℕ) (c : NodeChildren) where
     still : (j : ℕ) → j < c .len → countedKid m (getD (c .arr) j noKid .slot) ≡ countedKid (renewed m p i) (getD (c .arr) j noKid .slot)
     still j h =
         let s = getD (c .arr) j noKid .slot in
-        let e = same (renewed m p i) m s (now .others s (λ f. x .rows .apart j h (sym f))) (now .size) .counts in
+        let e = same (renewed m p i) m s (this-turn .others s (λ f. x .rows .apart j h (sym f))) (this-turn .size) .counts in
         ap (λ t. record { slot = s; info = t }) (sym e)
 
     entry : (t : Bool) (j : ℕ) → eqb j i ≡ t → j < i + 1 → getD (set (entries (regionOf m p)) i (countedKid m (slotAt m p i))) j noKid ≡ countedKid m (getD (c .arr) j noKid .slot)
@@ -78,8 +78,8 @@ module _ (m₀ : List ℕ) (p : ℕ) (c : NodeChildren) where
     counting-turn : Counting m₀ p c (renewed m p i) (i + 1)
     counting-turn = record {
       rows = next m₀ p c m i (x .rows) more;
-      others = λ u f. now .others u f ∙ x .others u f;
-      counted = λ j h. ap (λ (es : List Kid). getD es j noKid) (now .at) ∙ entry (eqb j i) j refl h ∙ still j (omega arith);
+      others = λ u f. this-turn .others u f ∙ x .others u f;
+      counted = λ j h. ap (λ (es : List Kid). getD es j noKid) (this-turn .at) ∙ entry (eqb j i) j refl h ∙ still j (omega arith);
     }
 
   counting : (n : ℕ) (m : List ℕ) (i : ℕ) → Counting m₀ p c m i → i + n ≡ c .len → Counting m₀ p c (renewedFrom m p i n) (c .len)

@@ -203,16 +203,16 @@ module _ (m : List ℕ) (list : NodeChildren) (i : ℕ) (leaves : AllLeaves m (k
 
   module _ (q : Bool) (l : List ℕ)
       (promise : (q ≡ fits (textOf m (getD (list .arr) (i - 1) noKid .slot)) (textOf m (getD (list .arr) i noKid .slot))) × (l ≡ packed m (getD (list .arr) (i - 1) noKid .slot) (getD (list .arr) i noKid .slot))) where
-    now : (q ≡ here) × (l ≡ packed m (slotIn (kids list) (i - 1)) (slotIn (kids list) i))
-    now = rw (kid-read list (i - 1) (omega arith), kid-read list i more) at promise
+    this-turn : (q ≡ here) × (l ≡ packed m (slotIn (kids list) (i - 1)) (slotIn (kids list) i))
+    this-turn = rw (kid-read list (i - 1) (omega arith), kid-read list i more) at promise
 
     pub took : q ≡ true → (r : Taken) → Taking (removed list i) list r
         → (l ≡ packed m (slotIn (kids list) (i - 1)) (slotIn (kids list) i)) × (r .list ≡ cond here (listOf (without i (kids list))) list)
     took e r w = (
-      now .1,
+      this-turn .1,
       w .list ∙ ap (λ (o : Outcome (Kid × NodeChildren)). kept list (mapped (λ (t : Kid × NodeChildren). t .1) o)) (removed-done list i (omega arith) more few)
-          ∙ ap (λ (t : Bool). cond t (listOf (without i (kids list))) list) (sym e ∙ now .0),
+          ∙ ap (λ (t : Bool). cond t (listOf (without i (kids list))) list) (sym e ∙ this-turn .0),
     )
 
     pub left : q ≡ false → (l ≡ packed m (slotIn (kids list) (i - 1)) (slotIn (kids list) i)) × (list ≡ cond here (listOf (without i (kids list))) list)
-    left e = (now .1, ap (λ (t : Bool). cond t (listOf (without i (kids list))) list) (sym e ∙ now .0))
+    left e = (this-turn .1, ap (λ (t : Bool). cond t (listOf (without i (kids list))) list) (sym e ∙ this-turn .0))

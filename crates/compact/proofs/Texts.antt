@@ -56,8 +56,8 @@ module _ (m : List ℕ) (l r : Kid) (rs : List Kid) (a : AllLeaves m (l ∷ r �
   abbrev next : List ℕ
   next = packed m (l .slot) (r .slot)
 
-  now : Packs m (l .slot) (r .slot) next
-  now = step m l r rs a
+  this-turn : Packs m (l .slot) (r .slot) next
+  this-turn = step m l r rs a
 
   left-apart : among (l .slot) (slotsOf (r ∷ rs)) ≡ false
   left-apart = neither (among (l .slot) (slotsOf (r ∷ rs))) (repeats (slotsOf (r ∷ rs))) (a .apart) .0
@@ -67,19 +67,19 @@ module _ (m : List ℕ) (l r : Kid) (rs : List Kid) (a : AllLeaves m (l ∷ r �
 
   rest-stay : textsOf next rs ≡ textsOf m rs
   rest-stay =
-      texts-stay next m rs (now .size)
-      (λ i h. now .others (slotIn rs i) (λ e. slot-other (r ∷ rs) (l .slot) (suc i) left-apart (omega arith) (sym e)) (λ e. slot-other rs (r .slot) i right-apart h (sym e)))
+      texts-stay next m rs (this-turn .size)
+      (λ i h. this-turn .others (slotIn rs i) (λ e. slot-other (r ∷ rs) (l .slot) (suc i) left-apart (omega arith) (sym e)) (λ e. slot-other rs (r .slot) i right-apart h (sym e)))
 
   went : (p : List ℕ × List Kid) → fits (textOf m (l .slot)) (textOf m (r .slot)) ≡ true → Full next l rs p → Full m l (r ∷ rs) p
   unfolding textsOf
   went p e f = record {
     tail = f .tail;
     first = f .first;
-    grows = omega (arith, f .grows, now .grows);
+    grows = omega (arith, f .grows, this-turn .grows);
     over = f .over;
     texts =
         f .texts
-        ∙ ap (λ (t : List ℕ). t ++ textsOf next rs) (now .whole e)
+        ∙ ap (λ (t : List ℕ). t ++ textsOf next rs) (this-turn .whole e)
         ∙ append-assoc (textOf m (l .slot)) (textOf m (r .slot)) (textsOf next rs)
         ∙ ap (λ (t : List ℕ). textOf m (l .slot) ++ (textOf m (r .slot) ++ t)) rest-stay;
   }
@@ -88,7 +88,7 @@ module _ (m : List ℕ) (l r : Kid) (rs : List Kid) (a : AllLeaves m (l ∷ r �
   unfolding textsOf
   stayed q e y f =
       let same-left : textOf (q .0) (l .slot) ≡ textOf next (l .slot) = same (q .0) next (l .slot) (y .others (l .slot) left-apart) (y .size) .text in
-      let both = now .joined e in
+      let both = this-turn .joined e in
       let long = leb-false (length (textOf m (l .slot)) + length (textOf m (r .slot))) 512 e in
       let sum : length (textOf next (l .slot)) + length (textOf next (r .slot)) ≡ length (textOf m (l .slot)) + length (textOf m (r .slot)) =
       omega (arith, ap length both, length-append (textOf next (l .slot)) (textOf next (r .slot)), length-append (textOf m (l .slot)) (textOf m (r .slot))) in
@@ -96,7 +96,7 @@ module _ (m : List ℕ) (l r : Kid) (rs : List Kid) (a : AllLeaves m (l ∷ r �
       record {
         tail = q .1;
         first = refl;
-        grows = omega (arith, ap length same-left, now .grows);
+        grows = omega (arith, ap length same-left, this-turn .grows);
         over = subst (λ (ks : List Kid). Over (q .0) (l ∷ ks)) (sym (f .first)) (pair, subst (λ (ks : List Kid). Over (q .0) ks) (f .first) (f .over));
         texts =
             ap (λ (t : List ℕ). t ++ textsOf (q .0) (q .1)) same-left
