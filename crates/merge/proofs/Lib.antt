@@ -3,3 +3,4 @@ pub mod JoinedLists
 pub mod Settled
 pub mod Ready
 pub mod Merged
+pub mod Texts

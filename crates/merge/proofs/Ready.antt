@@ -59,10 +59,10 @@ list-counted m s ks h n f w =
 
 -- ── parts of a list of children whose numbers have 32 bits ──
 
-take-fits : (p : ℕ) (ks : List Kid) → AllFit ks → AllFit (take p ks)
+pub take-fits : (p : ℕ) (ks : List Kid) → AllFit ks → AllFit (take p ks)
 take-fits p ks f i h = subst Fits (sym (getD-take p ks i noKid (omega (arith, length-take p ks)))) (f i (omega (arith, length-take p ks)))
 
-drop-fits : (p : ℕ) (ks : List Kid) → AllFit ks → AllFit (drop p ks)
+pub drop-fits : (p : ℕ) (ks : List Kid) → AllFit ks → AllFit (drop p ks)
 drop-fits p ks f i h = subst Fits (sym (getD-drop p ks i noKid)) (f (p + i) (omega (arith, length-drop p ks)))
 
 -- ── one write, and two ──
