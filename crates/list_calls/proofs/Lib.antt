@@ -1,3 +1,4 @@
 pub mod Opened
 pub mod Tests
 pub mod Numbers
+pub mod Unique

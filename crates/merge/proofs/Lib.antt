@@ -4,3 +4,4 @@ pub mod Settled
 pub mod Ready
 pub mod Merged
 pub mod Texts
+pub mod Unique

@@ -156,8 +156,7 @@ module _ (m : List ℕ) (a b : ℕ) (e : isList m a ≡ true) (f : isList m b �
           ∙ same v one a (list-others one b (listOf rs) there nr (gr .sixteen) a d) (list-size one b (listOf rs) there nr (gr .sixteen)) .children
           ∙ list-children m a (listOf ls) at-a nl (gl .sixteen) gl
           ∙ kids-of ls in
-          let right : childrenOf l b ≡ rs = ap (λ (y : List ℕ). childrenOf y b) (sym mem) ∙ list-children one b (listOf rs) there nr (gr .sixteen) gr ∙ kids-of rs in
-          (
+          let right : childrenOf l b ≡ rs = ap (λ (y : List ℕ). childrenOf y b) (sym mem) ∙ list-children one b (listOf rs) there nr (gr .sixteen) gr ∙ kids-of rs in (
             ap (λ (y : List Kid). y ++ childrenOf l b) left ∙ ap (λ (y : List Kid). ls ++ y) right ∙ take-append-drop p ks,
             ap length right ∙ length-drop p ks ∙ omega arith,
           )

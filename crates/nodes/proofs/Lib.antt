@@ -6,3 +6,4 @@ pub mod Put
 pub mod Halved
 pub mod Accepted
 pub mod Fitted
+pub mod Unique
