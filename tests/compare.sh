@@ -1,6 +1,7 @@
 #!/bin/sh
-# compare.sh [--short | --record FILE]   compares the proved library with the source crate.
-#   no word: every comparison (four or five minutes). --short: a few seconds. --record FILE: writes a sample of the source's answers.
+# compare.sh [--short | --record FILE | --record-lists FILE]   compares the proved library with the source crate.
+#   no word: every comparison (four or five minutes). --short: a few seconds. --record FILE: writes a sample of the source's answers on
+#   texts and leaves. --record-lists FILE: one of its answers on child lists.
 # ORACLE=FOLDER      the folder that holds prepare.sh (default: ../shared/oracle beside the repository)
 # TEXT_C_DIR=FOLDER  link the libtext_c.a, libleaf_c.a and liblist_c.a there instead of proving and building them
 set -eu
@@ -32,10 +33,10 @@ fi
 # What the caller named is meant from the caller's folder.
 oracle=$(cd "$oracle" && pwd)
 [ -z "${TEXT_C_DIR-}" ] || TEXT_C_DIR=$(cd "$TEXT_C_DIR" && pwd)
-if [ "${1-}" = --record ] && [ $# -eq 2 ]; then
-    case $2 in
-    /*) ;;
-    *) set -- --record "$PWD/$2" ;;
+if [ $# -eq 2 ]; then
+    case $1:$2 in
+    --record*:/*) ;;
+    --record:* | --record-lists:*) set -- "$1" "$PWD/$2" ;;
     esac
 fi
 

@@ -1,8 +1,9 @@
 //! Compares the proved library with the source crate.
 //!
-//! compare               the full run
-//! compare --short       the same groups, of smaller extent
-//! compare --record FILE writes a sample of the source's answers
+//! compare                     the full run
+//! compare --short             the same groups, of smaller extent
+//! compare --record FILE       writes a sample of the source's answers on texts and leaves
+//! compare --record-lists FILE writes a sample of its answers on child lists
 
 mod calls;
 mod groups;
@@ -15,6 +16,7 @@ mod record;
 mod tally;
 mod texts;
 
+use std::io;
 use std::process::ExitCode;
 
 use groups::Extent;
@@ -79,16 +81,21 @@ fn main() -> ExitCode {
     match words[..] {
         [] => compare(&FULL, &FULL_LEAF, &FULL_LIST),
         ["--short"] => compare(&SHORT, &SHORT_LEAF, &SHORT_LIST),
-        ["--record", path] => match record::write(path) {
-            Ok(()) => ExitCode::SUCCESS,
-            Err(error) => {
-                eprintln!("{path}: {error}");
-                ExitCode::FAILURE
-            }
-        },
+        ["--record", path] => recorded(path, record::write(path)),
+        ["--record-lists", path] => recorded(path, record::write_lists(path)),
         _ => {
-            eprintln!("compare [--short | --record FILE]");
+            eprintln!("compare [--short | --record FILE | --record-lists FILE]");
             ExitCode::from(2)
+        }
+    }
+}
+
+fn recorded(path: &str, wrote: io::Result<()>) -> ExitCode {
+    match wrote {
+        Ok(()) => ExitCode::SUCCESS,
+        Err(error) => {
+            eprintln!("{path}: {error}");
+            ExitCode::FAILURE
         }
     }
 }

@@ -1,5 +1,5 @@
-//! Writes a sample of the source's answers, to be replayed where the source cannot be run. First
-//! come the functions of the text layer, then the leaf's calls, then those on child lists.
+//! Writes samples of the source's answers, to be replayed where the source cannot be run: one of
+//! the functions of the text layer, then the leaf's calls; and one of the calls on child lists.
 //!
 //! A record of the text layer, numbers big-endian: function 1, index 4, bias_left 1, text length 2, text,
 //! refusal 1 (0: accepted), value 4 (0 where refused).
@@ -11,7 +11,7 @@ use crate::calls::{Answer, Case, Func, BREAK_FUNCS, INDEX_FUNCS, WHOLE_FUNCS};
 use crate::texts::{Random, DAMAGED};
 use crate::{leaf, list, oracle};
 
-/// Records of the text layer, and the most bytes that the whole sample may have.
+/// Records of the text layer, and the most bytes that a sample may have.
 const RECORDS: usize = 4_000;
 const MOST_BYTES: usize = 400 * 1024;
 
@@ -57,6 +57,7 @@ pub struct Sample {
     pub records: usize,
 }
 
+/// The sample of the text layer and the leaf's calls.
 pub fn write(path: &str) -> io::Result<()> {
     let mut sample = Sample::default();
     for text in TEXTS {
@@ -82,22 +83,31 @@ pub fn write(path: &str) -> io::Result<()> {
         sample.add_random(&mut random);
     }
     leaf::record::write(&mut sample);
-    list::record::write(&mut sample);
+    sample.close(path)
+}
 
-    assert!(
-        sample.bytes.len() <= MOST_BYTES,
-        "the sample has {} bytes",
-        sample.bytes.len()
-    );
-    std::fs::write(path, &sample.bytes)?;
-    for (func, (accepted, refused)) in &sample.counts {
-        println!("function {func}: {accepted} accepted, {refused} refused");
-    }
-    println!("{} records, {} bytes", sample.records, sample.bytes.len());
-    Ok(())
+/// The sample of the calls on child lists.
+pub fn write_lists(path: &str) -> io::Result<()> {
+    let mut sample = Sample::default();
+    list::record::write(&mut sample);
+    sample.close(path)
 }
 
 impl Sample {
+    fn close(&self, path: &str) -> io::Result<()> {
+        assert!(
+            self.bytes.len() <= MOST_BYTES,
+            "the sample has {} bytes",
+            self.bytes.len()
+        );
+        std::fs::write(path, &self.bytes)?;
+        for (func, (accepted, refused)) in &self.counts {
+            println!("function {func}: {accepted} accepted, {refused} refused");
+        }
+        println!("{} records, {} bytes", self.records, self.bytes.len());
+        Ok(())
+    }
+
     fn breaks(&mut self, text: &[u8]) {
         for index in (0..=text.len() + 1).chain([FARTHEST]) {
             for func in BREAK_FUNCS {

@@ -1,6 +1,6 @@
 //! The calls on lists in the sample.
 //!
-//! A record, numbers big-endian: function 1 (31 and the call's number), i 2, j 2, slot 1, other 1,
+//! A record, numbers big-endian: the call's number 1, i 2, j 2, slot 1, other 1,
 //! the number n 1 of the memory's slots (at most 7), the child that is put in 20 (an entry: slot
 //! and four counts), the n slots; then what is due: refusal 1 (0: accepted), the five numbers 4
 //! each (0 where refused), the number 1 of slots that the call changes, and for each its number 1
@@ -18,9 +18,6 @@ use crate::texts::{Random, DAMAGED};
 
 /// Records of the calls on lists.
 const RECORDS: usize = 1_000;
-
-/// The functions before these calls.
-const BEFORE: u8 = 31;
 
 /// Most slots of a memory.
 const MOST_SLOTS: usize = 7;
@@ -48,7 +45,6 @@ const SEAMS: [(usize, &str, usize, &str); 9] = [
 
 pub fn write(sample: &mut Sample) {
     let random = &mut Random::new();
-    let end = sample.records + RECORDS;
     for len in [0, 1, 2, 3, MAX_CHILDREN] {
         by_value(sample, random, len);
     }
@@ -75,7 +71,7 @@ pub fn write(sample: &mut Sample) {
     for (kind, len) in [(0, 0), (LEAF, 513), (LIST, 17), (3, 1)] {
         spoilt(sample, random, kind, len);
     }
-    while sample.records < end {
+    while sample.records < RECORDS {
         match sample.records % 3 {
             0 => any_nodes(sample, random),
             _ => any_list(sample, random),
@@ -238,7 +234,7 @@ fn add(sample: &mut Sample, case: &Case) {
         bytes.push(one(slot));
         push_slot(&mut bytes, slot_of(after, slot));
     }
-    sample.push(BEFORE + case.call as u8, due.refusal != 0, &bytes);
+    sample.push(case.call as u8, due.refusal != 0, &bytes);
 }
 
 fn slot_of(memory: &[u8], slot: usize) -> &[u8] {
