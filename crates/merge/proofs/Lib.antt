@@ -5,3 +5,4 @@ pub mod Ready
 pub mod Merged
 pub mod Texts
 pub mod Unique
+pub mod Parts
