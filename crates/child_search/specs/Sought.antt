@@ -140,3 +140,8 @@ pub record Sought (c : NodeChildren) (i : ℕ) (s : TextSum) (found : ℕ × Tex
   pub is : _≡_ {A = ℕ × TextSum} (i, s) found
   pub child : i < c .len
   pub small : Within s i
+
+-- what is found is one of at most 16 children, with sums that those on its left can have
+abbrev pub Small : Found → Type 0
+Small (Found·case.At i s) = (i < 16) × Within s 16
+Small (Found·case.Refused r) = Unit {0}

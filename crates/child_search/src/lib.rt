@@ -9,7 +9,7 @@ ghost use Prim.Native.Nat.{_<_, _≤_, min};
 ghost use lib.ListN.{drop};
 ghost use Rattle.plain.specs.Outcome.{mapped};
 ghost use Rattle.node_children.specs.Kids.{kids};
-ghost use Rattle.child_search.specs.Sought.{sum, found, foundChars, foundRange, total, combined, Within, Plus, Sought, stopsAt, mostOf, searchFrom, searched, charsOf, searchedRange};
+ghost use Rattle.child_search.specs.Sought.{sum, found, foundChars, foundRange, total, combined, Within, Plus, Sought, Small, stopsAt, mostOf, searchFrom, searched, charsOf, searchedRange};
 
 // The counts of all children.
 pub enum Sum {
@@ -141,9 +141,9 @@ pub fn combined_info(list: NodeChildren) -> Sum
     Sum::Is(sum_of(list))
 }
 
-// The first child that a search stops at, else the last.
-fn search_by(list: NodeChildren, m: Measure, at: usize) -> Found
-    ensures { λ r. ⌜ found r ≡ searched list m at ⌝ }
+// The first child that a search stops at, else the last. The promise adds how large the answer can be, for a caller that adds sums.
+pub fn search_by(list: NodeChildren, m: Measure, at: usize) -> Found
+    ensures { λ r. ⌜ (found r ≡ searched list m at) × Small r ⌝ }
 {
     let n = list.len;
     if n == 0 {

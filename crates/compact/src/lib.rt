@@ -4,7 +4,7 @@ mod pack;
 
 use answer::Verdict;
 use child_info::check_all;
-use child_info::update_child_info;
+use child_update::update_child_info;
 use node_children::NodeChildren;
 use nodes::load;
 use nodes::store;

@@ -65,23 +65,23 @@ fn ask(
     ensures { λ r. ⌜ Leaves (asked call (now (left .entry)) len start end (now (piece .entry)) (now (right .entry)) «right_len») (now (left .entry)) (now (right .entry)) r (now (left .exit)) (now (right .exit)) ⌝ }
 {
     match call {
-        Call::FromStr => beside(node_text::from_str(left, piece), right, right_len),
+        Call::FromStr => beside(leaf_edits::from_str(left, piece), right, right_len),
         Call::InsertStr => beside(
-            node_text::insert_str(left, len, start, piece),
+            leaf_edits::insert_str(left, len, start, piece),
             right,
             right_len,
         ),
         Call::InsertStrSplit => leaf_split::insert_str_split(left, len, start, piece, right),
-        Call::PushStr => beside(node_text::push_str(left, len, piece), right, right_len),
+        Call::PushStr => beside(leaf_edits::push_str(left, len, piece), right, right_len),
         Call::PushStrSplit => leaf_split::push_str_split(left, len, piece, right),
-        Call::Truncate => beside(node_text::truncate(left, len, start), right, right_len),
+        Call::Truncate => beside(leaf_edits::truncate(left, len, start), right, right_len),
         Call::TruncateFront => beside(
-            node_text::truncate_front(left, len, start),
+            leaf_edits::truncate_front(left, len, start),
             right,
             right_len,
         ),
         Call::RemoveRange => beside(
-            node_text::remove_range(left, len, start, end),
+            leaf_edits::remove_range(left, len, start, end),
             right,
             right_len,
         ),

@@ -26,7 +26,7 @@ pub fn insert_str_split(
     let n = held(region, len);
     match checked(&region[..n], byte_idx, byte_idx, string) {
         Number::Refused(r) => Sides::Refused(r),
-        Number::Is(_) => leaf_bytes::halve(region, len, byte_idx, string, right),
+        Number::Is(_) => leaf_halves::halve(region, len, byte_idx, string, right),
     }
 }
 
@@ -76,6 +76,6 @@ pub fn fix_segment_seam(l: &mut [u8], l_len: usize, r: &mut [u8], r_len: usize) 
     let b = held(r, r_len);
     match checked_seam(&l[..a], &r[..b]) {
         Number::Refused(q) => Sides::Refused(q),
-        Number::Is(_) => leaf_bytes::mend(l, l_len, r, r_len),
+        Number::Is(_) => leaf_seams::mend(l, l_len, r, r_len),
     }
 }

@@ -3,7 +3,7 @@ use crate::Reply;
 use crate::replies::of_truth;
 use crate::replies::of_verdict;
 use child_info::is_info_accurate;
-use child_info::update_child_info;
+use child_update::update_child_info;
 use compact::compact_leaves;
 use merge::merge_distribute;
 ghost use Rattle.list_calls.specs.Asked.{deepBy, Replied};

@@ -5,6 +5,9 @@ use answer::Number;
 use answer::Refusal;
 use answer::Verdict;
 use answer::number_of;
+use child_split::distribute_with;
+use child_split::insert_split;
+use child_split::push_split;
 use node_children::Listed;
 use node_children::MAX_LEN;
 use node_children::NodeChildren;
@@ -64,8 +67,8 @@ fn part_by(list: NodeChildren, what: Part, i: usize, kid: Kid) -> Two
     ensures { λ r. ⌜ Parting (partBy what i kid list) list (listOf []) r ⌝ }
 {
     match what {
-        Part::PushSplit => list.push_split(kid),
-        Part::InsertSplit => list.insert_split(i, kid),
+        Part::PushSplit => push_split(list, kid),
+        Part::InsertSplit => insert_split(list, i, kid),
         Part::SplitOff => list.split_off(i),
     }
 }
@@ -236,7 +239,7 @@ pub(crate) fn distribute_in(m: &mut [u8], slot: usize, other: usize) -> Verdict
         return w;
     };
     let ours = left.list;
-    let got = ours.distribute_with(right.list);
+    let got = distribute_with(ours, right.list);
     let u = got.verdict;
     let Verdict::Accepted = u else {
         return u;

@@ -3,6 +3,7 @@ use answer::Number;
 use answer::Refusal;
 use answer::Sides;
 use answer::Truth;
+use child_split::distribute_with;
 use leaf_bytes::MAX_BYTES;
 use node_children::NodeChildren;
 use nodes::edit_leaf;
@@ -135,7 +136,7 @@ fn join_lists(m: &mut [u8], a: usize, b: usize) -> Truth
     if left.len + right.len <= MAX_CHILDREN {
         return put_one(m, a, append(left, right));
     }
-    let two = left.distribute_with(right);
+    let two = distribute_with(left, right);
     put_two(m, a, two.left, b, two.right)
 }
 

@@ -5,7 +5,7 @@ mod join;
 use answer::Truth;
 use answer::Verdict;
 use child_info::check_pair;
-use child_info::update_child_info;
+use child_update::update_child_info;
 use join::join;
 use node_children::NodeChildren;
 use nodes::load;

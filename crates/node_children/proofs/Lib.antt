@@ -1,5 +1,6 @@
 pub mod Lists
 pub mod Rules
+pub mod Holding
 pub mod Halves
 pub mod Unique
 pub mod Shown

@@ -1,6 +1,6 @@
 // One leaf of the tree: text in a region of bytes that the caller lends, of which the first `len` are the leaf. A port of ropey's
-// `node_text.rs`. A call answers how long the leaf is then; what lies behind it stays as it is. Where the Rust asserts, a call refuses,
-// and then it changes no byte.
+// `node_text.rs`, of which the calls are in `leaf_edits` and `leaf_split`; here is the one edit that they are. It answers how long the leaf
+// is then; what lies behind it stays as it is. Where the Rust asserts, a call refuses, and then it changes no byte.
 use answer::Number;
 use answer::Refusal;
 ghost use mathlib.Core.Path.{_≡_};
@@ -53,48 +53,4 @@ pub fn edit(region: &mut [u8], len: usize, start: usize, end: usize, piece: &[u8
         return fits;
     };
     leaf_bytes::replace(region, len, start, end, piece)
-}
-
-// A leaf with this text.
-pub fn from_str(region: &mut [u8], string: &[u8]) -> Number
-    ensures { λ r. ⌜ Leaf (edited (now (region .entry)) 0 0 0 (now (string .entry))) (now (region .entry)) r (now (region .exit)) ⌝ }
-{
-    edit(region, 0, 0, 0, string)
-}
-
-// Inserts a text at a byte index.
-pub fn insert_str(region: &mut [u8], len: usize, byte_idx: usize, string: &[u8]) -> Number
-    ensures { λ r. ⌜ Leaf (edited (now (region .entry)) len «byte_idx» «byte_idx» (now (string .entry))) (now (region .entry)) r (now (region .exit)) ⌝ }
-{
-    edit(region, len, byte_idx, byte_idx, string)
-}
-
-// Appends a text.
-pub fn push_str(region: &mut [u8], len: usize, string: &[u8]) -> Number
-    ensures { λ r. ⌜ Leaf (edited (now (region .entry)) len (length (leafOf (now (region .entry)) len)) (length (leafOf (now (region .entry)) len)) (now (string .entry))) (now (region .entry)) r (now (region .exit)) ⌝ }
-{
-    let n = held(region, len);
-    edit(region, len, n, n, string)
-}
-
-// Drops the text after a byte index.
-pub fn truncate(region: &mut [u8], len: usize, byte_idx: usize) -> Number
-    ensures { λ r. ⌜ Leaf (edited (now (region .entry)) len «byte_idx» (length (leafOf (now (region .entry)) len)) []) (now (region .entry)) r (now (region .exit)) ⌝ }
-{
-    let n = held(region, len);
-    edit(region, len, byte_idx, n, b"")
-}
-
-// Drops the text before a byte index.
-pub fn truncate_front(region: &mut [u8], len: usize, byte_idx: usize) -> Number
-    ensures { λ r. ⌜ Leaf (edited (now (region .entry)) len 0 «byte_idx» []) (now (region .entry)) r (now (region .exit)) ⌝ }
-{
-    edit(region, len, 0, byte_idx, b"")
-}
-
-// Removes the text from one byte index to another.
-pub fn remove_range(region: &mut [u8], len: usize, byte_start: usize, byte_end: usize) -> Number
-    ensures { λ r. ⌜ Leaf (edited (now (region .entry)) len «byte_start» «byte_end» []) (now (region .entry)) r (now (region .exit)) ⌝ }
-{
-    edit(region, len, byte_start, byte_end, b"")
 }

@@ -3,7 +3,6 @@
 use answer::Number;
 use answer::Refusal;
 use str_indices::chars;
-use str_indices::lines_crlf;
 use str_indices::utf16;
 ghost use mathlib.Core.Path.{_≡_};
 ghost use lib.ListN.{length, take};

@@ -41,5 +41,5 @@ pub extern "C" fn wol_raw_count_surrogates(text: &[u8]) -> usize
 pub extern "C" fn wol_raw_count_breaks(text: &[u8]) -> usize
     ensures { λ r. ⌜ r ≡ breaks (now (text .entry)) ⌝ }
 {
-    str_indices::lines_crlf::count_breaks(text)
+    lines_crlf::count_breaks(text)
 }

@@ -4,7 +4,6 @@ use leaf_bytes::MAX_BYTES;
 use std::num::wrapping_add_u64;
 use std::num::wrapping_sub_u64;
 use str_indices::chars;
-use str_indices::lines_crlf;
 use str_indices::utf16;
 ghost use mathlib.Core.Path.{_≡_};
 ghost use Rattle.text_info.specs.Info.{info, leafInfo, zeros, Summed};

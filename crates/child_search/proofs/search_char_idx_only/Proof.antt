@@ -14,10 +14,10 @@ enum-known-i : tie.Need-enum-known-i
 enum-known-i c = search needs
 
 returns : tie.Need-returns
-returns c = only-refused (c .before .before .before .search-by .result) _ (c .before .before .before .search-by .ensures) _ (c .before .r .given .1)
+returns c = only-refused (c .before .before .before .search-by .result) _ (c .before .before .before .search-by .ensures .0) _ (c .before .r .given .1)
 
 returns-2 : tie.Need-returns-2
-returns-2 c = only-found (c .before .before .before .search-by .result) _ (c .before .before .before .search-by .ensures) _ _ (c .before .i .given .1)
+returns-2 c = only-found (c .before .before .before .search-by .result) _ (c .before .before .before .search-by .ensures .0) _ _ (c .before .i .given .1)
 
 pub search-char-idx-only-spec : {M : Type 1} → statement M
 search-char-idx-only-spec =
