@@ -1,6 +1,6 @@
 #!/bin/sh
-# bench.sh   measures the proved library's counts against plain Rust loops.
-# TEXT_C_DIR=FOLDER  link the libtext_c.a there instead of proving and building it
+# bench.sh   measures the library's counts, and its calls on a note, against plain Rust.
+# TEXT_C_DIR=FOLDER  link the libtext_c.a and libnote_c.a there instead of building them (archives.sh)
 set -eu
 # The proved library is compiled for x86-64, and under an emulator a time says nothing.
 [ -n "${TEXT_C_DIR-}" ] || [ "$(uname -m)" = x86_64 ] || {
@@ -12,7 +12,7 @@ root=$(cd "$(dirname "$0")/.." && pwd)
 
 cd "$root"
 if [ -z "${TEXT_C_DIR-}" ]; then
-    rt staticlib text_c
+    tests/archives.sh text_c note_c
     TEXT_C_DIR=$root/target/staticlib
 fi
 export TEXT_C_DIR

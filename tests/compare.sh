@@ -1,28 +1,14 @@
 #!/bin/sh
-# compare.sh [--short | --record FILE | --record-lists FILE]   compares the proved library with the source crate.
+# compare.sh [--short | --record FILE | --record-lists FILE]   compares the library with the source crate.
 #   no word: every comparison (four or five minutes). --short: a few seconds. --record FILE: writes a sample of the source's answers on
 #   texts and leaves. --record-lists FILE: one of its answers on child lists.
 # ORACLE=FOLDER      the folder that holds prepare.sh (default: ../shared/oracle beside the repository)
-# TEXT_C_DIR=FOLDER  link the libtext_c.a, libleaf_c.a and liblist_c.a there instead of proving and building them
+# TEXT_C_DIR=FOLDER  link the libtext_c.a, libleaf_c.a, liblist_c.a and libnote_c.a there instead of building them (archives.sh)
 set -eu
 root=$(cd "$(dirname "$0")/.." && pwd)
 oracle=${ORACLE:-$root/../shared/oracle}
 
-skip() {
-    echo "compare: skipped, $1"
-    exit 0
-}
-
-# The proved library is compiled for x86-64. On another processor the comparison is built for that too, and runs under an emulator:
-# with Debian's rustc and cargo, libstd-rust-dev:amd64, libc6-dev:amd64, gcc-x86-64-linux-gnu and qemu-user-static.
-cargo=cargo other='' runner=''
-if [ "$(uname -m)" != x86_64 ]; then
-    other=x86_64-unknown-linux-gnu
-    runner=$(command -v qemu-x86_64-static) && [ -d /usr/lib/rustlib/$other ] && [ -x /usr/bin/cargo ] && command -v x86_64-linux-gnu-gcc >/dev/null ||
-        skip "as this is no x86-64, and the tools to build and run for that are not installed"
-    cargo=/usr/bin/cargo
-    export RUSTC=/usr/bin/rustc RUSTFLAGS='-C target-feature=+crt-static' CARGO_TARGET_X86_64_UNKNOWN_LINUX_GNU_LINKER=x86_64-linux-gnu-gcc
-fi
+. "$root/tests/host.sh"
 
 [ -f "$oracle/prepare.sh" ] || skip "as the source crate is not at ../shared/oracle or \$ORACLE"
 if ! dpkg -L librust-smallvec-dev >/dev/null 2>&1; then
@@ -57,9 +43,7 @@ else
 fi
 
 if [ -z "${TEXT_C_DIR-}" ]; then
-    rt staticlib text_c
-    rt staticlib leaf_c
-    rt staticlib list_c
+    tests/archives.sh text_c leaf_c list_c note_c
     TEXT_C_DIR=$root/target/staticlib
 fi
 export TEXT_C_DIR

@@ -1,5 +1,7 @@
-//! Measures the proved library's counts against plain Rust loops, on the same buffers in one run.
+//! Measures the proved library's counts against plain Rust loops, on the same buffers in one run,
+//! and its calls on a note against a plain Rust pass over the same text.
 
+mod note;
 mod ours;
 mod plain;
 
@@ -64,6 +66,11 @@ fn main() {
             ours::checked_breaks,
             plain::checked_breaks,
         );
+    }
+    println!();
+    note::heading();
+    for (name, passage) in [("ASCII", ENGLISH), ("Japanese", JAPANESE)] {
+        note::measure(name, &fill(passage));
     }
 }
 

@@ -109,3 +109,29 @@ pub fn checked_breaks(text: &[u8]) -> Option<usize> {
     }
     (next == Next::Start).then_some(breaks)
 }
+
+/// What a note's check counts.
+pub struct Counts {
+    pub chars: usize,
+    pub units: usize,
+    pub breaks: usize,
+}
+
+/// The text checked by the standard library, and then its chars, units and breaks counted in one
+/// pass over its chars.
+pub fn counts(text: &[u8]) -> Option<Counts> {
+    let text = std::str::from_utf8(text).ok()?;
+    let mut counts = Counts {
+        chars: 0,
+        units: 0,
+        breaks: 0,
+    };
+    let mut after_cr = false;
+    for c in text.chars() {
+        counts.chars += 1;
+        counts.units += c.len_utf16();
+        counts.breaks += usize::from(c == '\r' || c == '\n' && !after_cr);
+        after_cr = c == '\r';
+    }
+    Some(counts)
+}

@@ -9,17 +9,18 @@ mod calls;
 mod groups;
 mod leaf;
 mod list;
+mod note;
 mod oracle;
 mod ours;
 mod panics;
 mod record;
 mod tally;
-mod texts;
 
 use std::io;
 use std::process::ExitCode;
 
 use groups::Extent;
+use notes::texts;
 
 const FULL: Extent = Extent {
     byte_string: 6,
@@ -46,6 +47,13 @@ const FULL_LIST: list::Extent = list::Extent {
     packed: 60_000,
     paired: 1_000,
     spoilt: 200,
+};
+
+const FULL_NOTE: note::Extent = note::Extent {
+    small: 300,
+    slots: 60,
+    large: 60,
+    asked: 400,
 };
 
 const SHORT: Extent = Extent {
@@ -75,12 +83,19 @@ const SHORT_LIST: list::Extent = list::Extent {
     spoilt: 5,
 };
 
+const SHORT_NOTE: note::Extent = note::Extent {
+    small: 20,
+    slots: 40,
+    large: 5,
+    asked: 40,
+};
+
 fn main() -> ExitCode {
     let words: Vec<String> = std::env::args().skip(1).collect();
     let words: Vec<&str> = words.iter().map(String::as_str).collect();
     match words[..] {
-        [] => compare(&FULL, &FULL_LEAF, &FULL_LIST),
-        ["--short"] => compare(&SHORT, &SHORT_LEAF, &SHORT_LIST),
+        [] => compare(&FULL, &FULL_LEAF, &FULL_LIST, &FULL_NOTE),
+        ["--short"] => compare(&SHORT, &SHORT_LEAF, &SHORT_LIST, &SHORT_NOTE),
         ["--record", path] => recorded(path, record::write(path)),
         ["--record-lists", path] => recorded(path, record::write_lists(path)),
         _ => {
@@ -100,11 +115,17 @@ fn recorded(path: &str, wrote: io::Result<()>) -> ExitCode {
     }
 }
 
-fn compare(extent: &Extent, of_leaves: &leaf::Extent, of_lists: &list::Extent) -> ExitCode {
+fn compare(
+    extent: &Extent,
+    of_leaves: &leaf::Extent,
+    of_lists: &list::Extent,
+    of_notes: &note::Extent,
+) -> ExitCode {
     let mut totals = tally::Totals::default();
     groups::run(extent, &mut totals);
     leaf::run(of_leaves, &mut totals);
     list::run(of_lists, &mut totals);
+    note::run(of_notes, &mut totals);
     if totals.close() {
         ExitCode::SUCCESS
     } else {

@@ -3,7 +3,6 @@
 mod calls;
 mod edits;
 mod groups;
-mod memory;
 mod nodes;
 mod ours;
 pub mod record;
@@ -12,5 +11,7 @@ mod rules;
 mod searches;
 mod source;
 mod tally;
+
+use notes::memory;
 
 pub use groups::{run, Extent};

@@ -1,0 +1,10 @@
+pub mod Below
+pub mod Marks
+pub mod Chain
+pub mod Tests
+pub mod Free
+pub mod Walking
+pub mod Clauses
+pub mod Whole
+pub mod Formed
+pub mod Room

@@ -1,0 +1,249 @@
+// The lent memory as a whole: whether it is well formed, which every call asks first. The check looks at each slot of the note once, and at
+// nothing beyond the note's need.
+use note_head::first_free;
+use note_head::mark_live;
+use note_head::mark_place;
+use note_head::slots;
+use pool::Head;
+use pool::head_of;
+use text_info::TextInfo;
+use text_info::TextSum;
+use tree_check::Met;
+use tree_check::check_node;
+ghost use mathlib.Core.Path.{_≡_};
+ghost use Prim.Native.Nat.{_≤_, _<_};
+ghost use lib.ListN.{length};
+ghost use Rattle.plain_note.specs.Note.{need};
+ghost use Rattle.tree.specs.Tree.{leastRoot, tells};
+ghost use Rattle.note_head.specs.Head.{nOf};
+ghost use Rattle.memory.specs.Formed.{allBelow, wellFormed};
+ghost use Rattle.memory.specs.Checks.{ownRight, headRight, markRight, met, Stepped, Walked, Sorted, RootMet, Ready};
+
+// The least and the most slots of a note.
+const MIN_SLOTS: usize = 17;
+
+const MAX_SLOTS: usize = 4096;
+
+// The bytes of the memory's head, and of a slot.
+const HEAD_BYTES: usize = 6144;
+
+const SLOT_BYTES: usize = 640;
+
+// Each slot but these adds to the bytes that the note may have.
+const SLOTS_HELD_BACK: usize = 16;
+
+const BYTES_PER_SLOT: usize = 64;
+
+const MARKS: usize = 256;
+
+// No tree of a note within its size is higher.
+const MAX_HEIGHT: u8 = 5;
+
+// The least children of a root that is a list.
+const MIN_ROOT_CHILDREN: usize = 2;
+
+// A step along the free slots: the next one, or none where the slot is not free or was met before.
+enum Step {
+    To(usize),
+    Bad,
+}
+
+// ── marks ──
+
+// Whether mark k is free, or live at a place of a note of so many chars.
+fn mark_right(m: &[u8], k: usize, chars: u64) -> bool
+    ensures { λ r. ⌜ r ≡ markRight (now (m .entry)) chars k ⌝ }
+{
+    let live = mark_live(m, k);
+    if live == 0 {
+        return true;
+    }
+    if live != 1 {
+        return false;
+    }
+    mark_place(m, k) as u64 <= chars
+}
+
+fn marks_right(m: &[u8], chars: u64) -> bool
+    ensures { λ r. ⌜ r ≡ allBelow 256 (markRight (now (m .entry)) chars) ⌝ }
+{
+    let mut k: usize = 0;
+    while k < MARKS {
+        if !mark_right(m, k, chars) {
+            return false;
+        }
+        k += 1;
+    }
+    true
+}
+
+// ── slots ──
+
+fn take_free(m: &[u8], seen: &mut [u8], slot: usize) -> Step
+    requires { ⌜ length (now m) ≡ need (length (now seen)) ⌝ }
+    ensures { λ r. ⌜ Stepped (now (m .entry)) (now (seen .entry)) (now (seen .exit)) slot r ⌝ }
+{
+    let Head::Free(next) = head_of(m, slot) else {
+        return Step::Bad;
+    };
+    if seen[slot] != 0 {
+        return Step::Bad;
+    }
+    seen[slot] = 1;
+    Step::To(next)
+}
+
+// Marks the free slots, from the first one on. Each of them is met once at most, so there are no more steps than slots.
+fn walk(m: &[u8], seen: &mut [u8], first: usize) -> bool
+    requires { ⌜ length (now m) ≡ need (length (now seen)) ⌝ }
+    ensures { λ r. ⌜ Walked (now (m .entry)) (length (now (seen .entry))) first (now (seen .entry)) (now (seen .exit)) r ⌝ }
+{
+    let n = seen.len();
+    let mut at = first;
+    let mut left = n;
+    while 0 < left {
+        if at == n {
+            return true;
+        }
+        let Step::To(next) = take_free(m, seen, at) else {
+            return false;
+        };
+        at = next;
+        left -= 1;
+    }
+    at == n
+}
+
+fn all_met(seen: &[u8]) -> bool
+    ensures { λ r. ⌜ r ≡ allBelow (length (now (seen .entry))) (met (now (seen .entry))) ⌝ }
+{
+    let mut x: usize = 0;
+    while x < seen.len() {
+        if seen[x] == 0 {
+            return false;
+        }
+        x += 1;
+    }
+    true
+}
+
+// Whether each slot that was not met is free, and no other.
+fn slots_right(m: &[u8], seen: &mut [u8]) -> bool
+    requires { ⌜ (length (now m) ≡ need (length (now seen))) × (length (now seen) ≡ nOf (now m)) ⌝ }
+    ensures { λ r. ⌜ Sorted (now (m .entry)) (now (seen .entry)) r ⌝ }
+{
+    if !walk(m, seen, first_free(m)) {
+        return false;
+    }
+    all_met(seen)
+}
+
+// ── the tree ──
+
+fn least_root(height: u8) -> usize
+    ensures { λ r. ⌜ r ≡ leastRoot height ⌝ }
+{
+    if height == 0 {
+        return 0;
+    }
+    MIN_ROOT_CHILDREN
+}
+
+fn wide(x: u32) -> u64
+    ensures { λ r. ⌜ r ≡ x ⌝ }
+{
+    x as u64
+}
+
+// Whether stored counts are the counted ones.
+fn told(info: TextInfo, sum: TextSum) -> bool
+    ensures { λ r. ⌜ r ≡ tells info sum ⌝ }
+{
+    if wide(info.bytes) != sum.bytes {
+        return false;
+    }
+    if wide(info.chars) != sum.chars {
+        return false;
+    }
+    if wide(info.utf16_surrogates) != sum.utf16_surrogates {
+        return false;
+    }
+    wide(info.line_breaks) == sum.line_breaks
+}
+
+// The tree from the root on.
+fn check_root(m: &[u8], seen: &mut [u8]) -> Met
+    ensures { λ r. ⌜ RootMet (now (m .entry)) (now (seen .entry)) (now (seen .exit)) r ⌝ }
+{
+    let root = note_head::root(m);
+    let height = note_head::height(m);
+    check_node(
+        m,
+        seen,
+        height,
+        wide(root.slot) as usize,
+        least_root(height),
+    )
+}
+
+// ── the memory ──
+
+// Whether the head is right for a note of these counts: the stored counts, the size of n slots, and the marks.
+fn head_right(m: &[u8], n: usize, sum: TextSum) -> bool
+    requires { ⌜ (17 ≤ n) × (n ≤ 4096) ⌝ }
+    ensures { λ r. ⌜ r ≡ headRight (now (m .entry)) n sum ⌝ }
+{
+    let root = note_head::root(m);
+    if !told(root.info, sum) {
+        return false;
+    }
+    let most = (BYTES_PER_SLOT * (n - SLOTS_HELD_BACK)) as u64;
+    if most < sum.bytes {
+        return false;
+    }
+    marks_right(m, sum.chars)
+}
+
+// The note's own memory, with a mark for each of its slots.
+fn check_with(m: &[u8], seen: &mut [u8]) -> bool
+    requires { ⌜ Ready (now m) (now seen) ⌝ }
+    ensures { λ r. ⌜ r ≡ ownRight (now (m .entry)) ⌝ }
+{
+    let Met::Fine(sum, _, _) = check_root(m, seen) else {
+        return false;
+    };
+    if !head_right(m, seen.len(), sum) {
+        return false;
+    }
+    slots_right(m, seen)
+}
+
+// A higher tree has more text than fits, so that the walk goes no deeper, whatever the memory holds.
+fn check_own(m: &[u8], n: usize) -> bool
+    requires { ⌜ (n ≡ nOf (now m)) × (17 ≤ n) × (n ≤ 4096) × (length (now m) ≡ need n) ⌝ }
+    ensures { λ r. ⌜ r ≡ ownRight (now (m .entry)) ⌝ }
+{
+    if MAX_HEIGHT < note_head::height(m) {
+        return false;
+    }
+    let mut seen = [0u8; 4096];
+    check_with(m, &mut seen[..n])
+}
+
+// Whether the memory is well formed.
+pub fn check(m: &[u8]) -> bool
+    ensures { λ r. ⌜ r ≡ wellFormed (now (m .entry)) ⌝ }
+{
+    let n = slots(m);
+    if n < MIN_SLOTS {
+        return false;
+    }
+    if MAX_SLOTS < n {
+        return false;
+    }
+    let end = SLOT_BYTES * n + HEAD_BYTES;
+    if m.len() < end {
+        return false;
+    }
+    check_own(&m[..end], n)
+}

@@ -1,0 +1,93 @@
+// The calls of a note for C and Rust to link: opening, the check, and what reads. Each but the check returns 0, or document 01's number of the
+// refusal.
+mod calls;
+
+use answer::Number;
+use answer::Verdict;
+ghost use mathlib.Core.Path.{_≡_};
+ghost use lib.ListN.{length};
+ghost use Rattle.plain.specs.Outcome.{kept, mapped};
+ghost use Rattle.plain_note.specs.Note.{copied, readFrom, previewed};
+ghost use Rattle.answer.specs.Answers.{number, verdict};
+ghost use Rattle.leaf_bytes.specs.Leaf.{written};
+ghost use Rattle.memory.specs.Formed.{wellFormed, ofNote};
+ghost use Rattle.opening.specs.Opened.{opens};
+ghost use Rattle.runs.specs.Runs.{runOf, previewOf};
+ghost use Rattle.note_c.specs.Asked.{askedBy};
+ghost use Rattle.note_c.specs.Told.{code, Copied};
+
+fn code_of(v: Verdict) -> u8
+    ensures { λ r. ⌜ r ≡ code (verdict v) ⌝ }
+{
+    match v {
+        Verdict::Accepted => 0,
+        Verdict::Refused(q) => answer::number_of(q),
+    }
+}
+
+// Writes a value through `out`; a refusal writes nothing.
+fn tell(a: Number, out: &mut u64) -> u8
+    ensures { λ r. ⌜ (r ≡ code (number a)) × (now (out .exit) ≡ kept (now (out .entry)) (number a)) ⌝ }
+{
+    match a {
+        Number::Is(n) => {
+            *out = n as u64;
+            0
+        }
+        Number::Refused(q) => answer::number_of(q),
+    }
+}
+
+#[no_mangle]
+pub extern "C" fn wol_note_open(m: &mut [u8], n: usize) -> u8
+    ensures { λ r. ⌜ (r ≡ code (opens (now (m .entry)) n)) × (now (m .exit) ≡ kept (now (m .entry)) (opens (now (m .entry)) n)) ⌝ }
+{
+    code_of(opening::open(m, n))
+}
+
+#[no_mangle]
+pub extern "C" fn wol_note_check(m: &[u8]) -> bool
+    ensures { λ r. ⌜ r ≡ wellFormed (now (m .entry)) ⌝ }
+{
+    memory::check(m)
+}
+
+// The call with a number, as `calls` has them, and its value through `out`.
+#[no_mangle]
+pub extern "C" fn wol_note_read(call: u8, m: &[u8], index: usize, out: &mut u64) -> u8
+    ensures { λ r. ⌜ (r ≡ code (askedBy call (now (m .entry)) index)) × (now (out .exit) ≡ kept (now (out .entry)) (askedBy call (now (m .entry)) index)) ⌝ }
+{
+    tell(calls::ask_by(call, m, index), out)
+}
+
+// The chars of [s, e) at the front of `out`, and through `count` how many bytes they are.
+#[no_mangle]
+pub extern "C" fn wol_note_copy(m: &[u8], s: usize, e: usize, out: &mut [u8], count: &mut u64) -> u8
+    ensures { λ r. ⌜ Copied (ofNote (now (m .entry)) (λ N. copied N s e (length (now (out .entry))))) (now (out .entry)) (now (count .entry)) r (now (out .exit)) (now (count .exit)) ⌝ }
+{
+    tell(copy_out::copy_out(m, s, e, out), count)
+}
+
+// The run itself, not a copy, through `part`: an empty one where it is refused.
+#[no_mangle]
+pub extern "C" fn wol_note_run<'a>(m: &'a [u8], p: usize, part: &mut &'a [u8]) -> u8
+    ensures { λ r. ⌜ (r ≡ code (ofNote (now (m .entry)) (λ N. readFrom N p))) × (now (now (part .exit)) ≡ runOf (now (m .entry)) p) ⌝ }
+{
+    *part = runs::run(m, p);
+    code_of(runs::run_refusal(m, p))
+}
+
+// The same of a preview.
+#[no_mangle]
+pub extern "C" fn wol_note_preview<'a>(
+    m: &'a [u8],
+    piece: &'a [u8],
+    p: usize,
+    q: usize,
+    part: &mut &'a [u8],
+) -> u8
+    ensures { λ r. ⌜ (r ≡ code (ofNote (now (m .entry)) (λ N. previewed N p (now (piece .entry)) q))) × (now (now (part .exit)) ≡ previewOf (now (m .entry)) p (now (piece .entry)) q) ⌝ }
+{
+    *part = runs::preview(m, piece, p, q);
+    code_of(runs::preview_refusal(m, piece, p, q))
+}

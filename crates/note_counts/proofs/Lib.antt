@@ -1,0 +1,3 @@
+pub mod InLeaf
+pub mod InNote
+pub mod Rules

@@ -1,0 +1,127 @@
+// The head of the lent memory, read. Each function is total on any bytes: a byte past the memory's end counts as 0.
+use pool::Kid;
+use text_info::TextInfo;
+ghost use mathlib.Core.Path.{_≡_};
+ghost use Prim.Native.Nat.{_<_};
+ghost use lib.ListN.{getD};
+ghost use Rattle.pool.specs.Big.{twoAt, fourAt};
+ghost use Rattle.note_head.specs.Head.{nOf, editOf, rootOf, heightOf, freeOf, liveAt, placeAt};
+
+// Where the numbers of the head lie, and the marks, 16 bytes each.
+const SLOTS_AT: usize = 0;
+
+const EDIT_AT: usize = 4;
+
+const ROOT_AT: usize = 8;
+
+const HEIGHT_AT: usize = 28;
+
+const FREE_AT: usize = 32;
+
+const MARKS_AT: usize = 2048;
+
+const PLACES_AT: usize = 2052;
+
+const MARK_BYTES: usize = 16;
+
+fn wide(x: u8) -> u32
+    ensures { λ r. ⌜ (r ≡ x) × (r < 256) ⌝ }
+{
+    x as u32
+}
+
+fn byte_at(m: &[u8], at: usize) -> u8
+    ensures { λ r. ⌜ r ≡ getD (now (m .entry)) at 0 ⌝ }
+{
+    if at < m.len() {
+        return m[at];
+    }
+    0
+}
+
+// The number of two bytes, the most significant first, and of four.
+fn two_at(m: &[u8], at: usize) -> u32
+    ensures { λ r. ⌜ (r ≡ twoAt (now (m .entry)) at) × (r < 65536) ⌝ }
+{
+    if m.len() <= at {
+        return 0;
+    }
+    wide(byte_at(m, at)) * 256 + wide(byte_at(m, at + 1))
+}
+
+fn number_at(m: &[u8], at: usize) -> u32
+    ensures { λ r. ⌜ (r ≡ fourAt (now (m .entry)) at) × (r < 4294967296) ⌝ }
+{
+    if m.len() <= at {
+        return 0;
+    }
+    let upper = two_at(m, at) * 65536;
+    if m.len() - at <= 2 {
+        return upper;
+    }
+    upper + two_at(m, at + 2)
+}
+
+// How many slots the note was opened with.
+pub fn slots(m: &[u8]) -> usize
+    ensures { λ r. ⌜ (r ≡ nOf (now (m .entry))) × (r < 4294967296) ⌝ }
+{
+    number_at(m, SLOTS_AT) as usize
+}
+
+pub fn edit_number(m: &[u8]) -> u32
+    ensures { λ r. ⌜ r ≡ editOf (now (m .entry)) ⌝ }
+{
+    number_at(m, EDIT_AT)
+}
+
+// The root as a child: its slot, and the counts of the note.
+pub fn root(m: &[u8]) -> Kid
+    ensures { λ r. ⌜ r ≡ rootOf (now (m .entry)) ⌝ }
+{
+    let slot = number_at(m, ROOT_AT);
+    let info = TextInfo {
+        bytes: number_at(m, ROOT_AT + 4),
+        chars: number_at(m, ROOT_AT + 8),
+        utf16_surrogates: number_at(m, ROOT_AT + 12),
+        line_breaks: number_at(m, ROOT_AT + 16),
+    };
+    Kid { slot, info }
+}
+
+pub fn height(m: &[u8]) -> u8
+    ensures { λ r. ⌜ r ≡ heightOf (now (m .entry)) ⌝ }
+{
+    byte_at(m, HEIGHT_AT)
+}
+
+pub fn first_free(m: &[u8]) -> usize
+    ensures { λ r. ⌜ (r ≡ freeOf (now (m .entry))) × (r < 4294967296) ⌝ }
+{
+    number_at(m, FREE_AT) as usize
+}
+
+// Whether mark k is live: 1, or 0.
+pub fn mark_live(m: &[u8], k: usize) -> u8
+    ensures { λ r. ⌜ r ≡ liveAt (now (m .entry)) k ⌝ }
+{
+    if m.len() < MARKS_AT {
+        return 0;
+    }
+    if (m.len() - MARKS_AT) / MARK_BYTES < k {
+        return 0;
+    }
+    byte_at(m, MARKS_AT + MARK_BYTES * k)
+}
+
+pub fn mark_place(m: &[u8], k: usize) -> usize
+    ensures { λ r. ⌜ (r ≡ placeAt (now (m .entry)) k) × (r < 4294967296) ⌝ }
+{
+    if m.len() < PLACES_AT {
+        return 0;
+    }
+    if (m.len() - PLACES_AT) / MARK_BYTES < k {
+        return 0;
+    }
+    number_at(m, PLACES_AT + MARK_BYTES * k) as usize
+}

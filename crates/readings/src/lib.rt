@@ -1,0 +1,120 @@
+// The calls that read the note's counts: its lengths, n, the edit number, and an index of one count turned into another, under the names of
+// ropey's `rope.rs`. Each is refused by 2 where the memory is not well formed, and looks at nothing beyond the note's need.
+use answer::Number;
+use answer::Refusal;
+use note_counts::Count;
+use note_counts::convert;
+use note_counts::length_by;
+ghost use mathlib.Core.Path.{_≡_};
+ghost use lib.ListN.{length};
+ghost use Rattle.plain.specs.Place.{Measure.byte, Measure.char, Measure.unit, Measure.line, bytes, units};
+ghost use Rattle.plain.specs.Count.{lines};
+ghost use Rattle.plain.specs.Outcome.{Outcome.value};
+ghost use Rattle.answer.specs.Answers.{number};
+ghost use Rattle.plain_note.specs.Note.{converted};
+ghost use Rattle.memory.specs.Formed.{ofNote};
+
+// A number as wide as an index.
+fn wide(x: u32) -> usize
+    ensures { λ r. ⌜ r ≡ x ⌝ }
+{
+    x as usize
+}
+
+// How many bytes the note has.
+pub fn len_bytes(m: &[u8]) -> Number
+    ensures { λ r. ⌜ number r ≡ ofNote (now (m .entry)) (λ N. value (bytes (N .text))) ⌝ }
+{
+    length_by(m, Count::Bytes)
+}
+
+pub fn len_chars(m: &[u8]) -> Number
+    ensures { λ r. ⌜ number r ≡ ofNote (now (m .entry)) (λ N. value (length (N .text))) ⌝ }
+{
+    length_by(m, Count::Chars)
+}
+
+pub fn len_utf16_cu(m: &[u8]) -> Number
+    ensures { λ r. ⌜ number r ≡ ofNote (now (m .entry)) (λ N. value (units (N .text))) ⌝ }
+{
+    length_by(m, Count::Units)
+}
+
+// How many lines: one more than its breaks.
+pub fn len_lines(m: &[u8]) -> Number
+    ensures { λ r. ⌜ number r ≡ ofNote (now (m .entry)) (λ N. value (lines (N .text))) ⌝ }
+{
+    length_by(m, Count::Lines)
+}
+
+// How many slots the note was opened with.
+pub fn slots(m: &[u8]) -> Number
+    ensures { λ r. ⌜ number r ≡ ofNote (now (m .entry)) (λ N. value (N .n)) ⌝ }
+{
+    if !memory::check(m) {
+        return Number::Refused(Refusal::Memory);
+    }
+    let n = note_head::slots(m);
+    Number::Is(n)
+}
+
+// How many edits changed the text: 32 bits, which return to 0.
+pub fn edit_number(m: &[u8]) -> Number
+    ensures { λ r. ⌜ number r ≡ ofNote (now (m .entry)) (λ N. value (N .edit)) ⌝ }
+{
+    if !memory::check(m) {
+        return Number::Refused(Refusal::Memory);
+    }
+    let edits = note_head::edit_number(m);
+    Number::Is(wide(edits))
+}
+
+// The char of a byte: one inside a char means that char.
+pub fn byte_to_char(m: &[u8], byte_idx: usize) -> Number
+    ensures { λ r. ⌜ number r ≡ ofNote (now (m .entry)) (λ N. converted byte char N «byte_idx») ⌝ }
+{
+    convert(m, Count::Bytes, Count::Chars, byte_idx)
+}
+
+pub fn char_to_byte(m: &[u8], char_idx: usize) -> Number
+    ensures { λ r. ⌜ number r ≡ ofNote (now (m .entry)) (λ N. converted char byte N «char_idx») ⌝ }
+{
+    convert(m, Count::Chars, Count::Bytes, char_idx)
+}
+
+pub fn byte_to_line(m: &[u8], byte_idx: usize) -> Number
+    ensures { λ r. ⌜ number r ≡ ofNote (now (m .entry)) (λ N. converted byte line N «byte_idx») ⌝ }
+{
+    convert(m, Count::Bytes, Count::Lines, byte_idx)
+}
+
+// Where a line begins: the number of lines means the end.
+pub fn line_to_byte(m: &[u8], line_idx: usize) -> Number
+    ensures { λ r. ⌜ number r ≡ ofNote (now (m .entry)) (λ N. converted line byte N «line_idx») ⌝ }
+{
+    convert(m, Count::Lines, Count::Bytes, line_idx)
+}
+
+pub fn char_to_line(m: &[u8], char_idx: usize) -> Number
+    ensures { λ r. ⌜ number r ≡ ofNote (now (m .entry)) (λ N. converted char line N «char_idx») ⌝ }
+{
+    convert(m, Count::Chars, Count::Lines, char_idx)
+}
+
+pub fn line_to_char(m: &[u8], line_idx: usize) -> Number
+    ensures { λ r. ⌜ number r ≡ ofNote (now (m .entry)) (λ N. converted line char N «line_idx») ⌝ }
+{
+    convert(m, Count::Lines, Count::Chars, line_idx)
+}
+
+pub fn char_to_utf16_cu(m: &[u8], char_idx: usize) -> Number
+    ensures { λ r. ⌜ number r ≡ ofNote (now (m .entry)) (λ N. converted char unit N «char_idx») ⌝ }
+{
+    convert(m, Count::Chars, Count::Units, char_idx)
+}
+
+pub fn utf16_cu_to_char(m: &[u8], utf16_cu_idx: usize) -> Number
+    ensures { λ r. ⌜ number r ≡ ofNote (now (m .entry)) (λ N. converted unit char N «utf16_cu_idx») ⌝ }
+{
+    convert(m, Count::Units, Count::Chars, utf16_cu_idx)
+}

@@ -1,0 +1,118 @@
+// The text of a leaf, and what joins the texts of children: their counts, and how a text begins and ends.
+use crate::Met;
+use answer::Number;
+use pool::region_start;
+use text_info::Info;
+use text_info::TextInfo;
+use text_info::TextSum;
+ghost use mathlib.Core.Path.{_≡_};
+ghost use mathlib.Core.Bool.{false};
+ghost use Prim.Native.Nat.{_≤_};
+ghost use lib.ListN.{length};
+ghost use Rattle.plain.specs.Count.{lfFirst, crLast};
+ghost use Rattle.leaf_bytes.specs.Leaf.{leafOf};
+ghost use Rattle.pool.specs.Slot.{regionOf};
+ghost use Rattle.pool.specs.Calls.{outside};
+ghost use Rattle.child_search.specs.Sought.{Within, Plus};
+ghost use Rattle.tree.specs.Tree as tree;
+ghost use Rattle.tree_check.specs.Met as met;
+
+// Counts as wide as sums are.
+fn widened(info: TextInfo) -> TextSum
+    ensures { λ r. ⌜ r ≡ met.widened info ⌝ }
+{
+    TextSum {
+        bytes: info.bytes as u64,
+        chars: info.chars as u64,
+        utf16_surrogates: info.utf16_surrogates as u64,
+        line_breaks: info.line_breaks as u64,
+    }
+}
+
+fn begins_lf(text: &[u8]) -> bool
+    ensures { λ r. ⌜ r ≡ lfFirst (now (text .entry)) ⌝ }
+{
+    if text.len() == 0 {
+        return false;
+    }
+    text[0] == b'\n'
+}
+
+fn ends_cr(text: &[u8]) -> bool
+    ensures { λ r. ⌜ r ≡ crLast (now (text .entry)) ⌝ }
+{
+    let n = text.len();
+    if n == 0 {
+        return false;
+    }
+    text[n - 1] == b'\r'
+}
+
+// A text by itself: one pass for its form and its counts.
+fn check_text(text: &[u8]) -> Met
+    requires { ⌜ length (now text) ≤ 512 ⌝ }
+    ensures { λ r. ⌜ met.TextMet (now (text .entry)) r ⌝ }
+{
+    match TextInfo::from_str(text) {
+        Info::Refused(_) => Met::Bad,
+        Info::Is(info) => Met::Fine(widened(info), begins_lf(text), ends_cr(text)),
+    }
+}
+
+// The text in the first n bytes of a slot's region.
+pub(crate) fn check_leaf(m: &[u8], slot: usize, n: usize) -> Met
+    requires { ⌜ (outside (now m) slot ≡ false) × (n ≤ 512) ⌝ }
+    ensures { λ r. ⌜ met.TextMet (leafOf (regionOf (now (m .entry)) slot) n) r ⌝ }
+{
+    match region_start(m, slot) {
+        Number::Refused(_) => Met::Bad,
+        Number::Is(at) => check_text(&m[at..at + n]),
+    }
+}
+
+// Whether these are the counts that a list has for a child.
+fn tells(info: TextInfo, got: TextSum) -> bool
+    ensures { λ r. ⌜ r ≡ tree.tells info got ⌝ }
+{
+    if info.bytes as u64 != got.bytes {
+        return false;
+    }
+    if info.chars as u64 != got.chars {
+        return false;
+    }
+    if info.utf16_surrogates as u64 != got.utf16_surrogates {
+        return false;
+    }
+    info.line_breaks as u64 == got.line_breaks
+}
+
+// Whether a child may follow: told right, and its text does not begin with the LF of a CR before it.
+pub(crate) fn follows(info: TextInfo, got: TextSum, cr: bool, lf: bool) -> bool
+    ensures { λ r. ⌜ r ≡ met.follows info got cr lf ⌝ }
+{
+    if !tells(info, got) {
+        return false;
+    }
+    if cr {
+        return !lf;
+    }
+    true
+}
+
+// The counts of one child more.
+pub(crate) fn plus(sum: TextSum, info: TextInfo) -> TextSum
+    requires { ⌜ Within sum 16 ⌝ }
+    ensures { λ r. ⌜ Plus sum info r ⌝ }
+{
+    sum.add(info)
+}
+
+// Whether a text of i children and one more begins with LF.
+pub(crate) fn begun(i: usize, lf: bool, first: bool) -> bool
+    ensures { λ r. ⌜ r ≡ met.begun i lf first ⌝ }
+{
+    if i == 0 {
+        return first;
+    }
+    lf
+}

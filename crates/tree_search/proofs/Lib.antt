@@ -1,0 +1,7 @@
+pub mod Seams
+pub mod Among
+pub mod Stops
+pub mod Nested
+pub mod Rules
+pub mod Parted
+pub mod Unique

@@ -1,0 +1,7 @@
+//! The comparison of the calls that read a note in a lent memory.
+
+mod groups;
+mod source;
+mod tally;
+
+pub use groups::{run, Extent};
