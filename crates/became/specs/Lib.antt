@@ -1,0 +1,2 @@
+pub mod Became
+pub mod Grown

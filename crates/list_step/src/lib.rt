@@ -1,0 +1,171 @@
+// One step of an edit on its way up: a list of children takes in what became of one of them. The list keeps its slot; a full one that gets
+// one child more is parted, and the right half lies in a slot that was free. A refused call changes no byte.
+use answer::Number;
+use answer::Refusal;
+use answer::Verdict;
+use child_split::insert_split;
+use edits::Edit;
+use node_children::Listed;
+use node_children::MAX_LEN;
+use node_children::NodeChildren;
+use nodes::list_info;
+use nodes::load;
+use nodes::store;
+use pool::Kid;
+use slots::take_slot;
+use text_info::Info;
+use text_info::TextInfo;
+ghost use mathlib.Core.Path.{_≡_};
+ghost use mathlib.Core.Bool.{false};
+ghost use mathlib.Core.List.{[]};
+ghost use Prim.Native.Nat.{_<_, _≤_};
+ghost use Rattle.pool.specs.Calls.{outside};
+ghost use Rattle.node_children.specs.Kids.{kids, listOf, Listing};
+ghost use Rattle.edits.specs.Made.{Stepped};
+ghost use Rattle.list_step.specs.Steps.{recount, recounted, keeping, laying, parting, adding, onePut, twoPut};
+
+// The fewest children that a list should have which is not the root.
+const MIN_LEN: usize = 4;
+
+// The last slot that 32 bits name.
+const LAST_SLOT: usize = 4294967295;
+
+// The child at an index gets other counts.
+fn recount(list: NodeChildren, idx: usize, info: TextInfo) -> NodeChildren
+    requires { ⌜ (idx < list .len) × (list .len ≤ 16) × (list ≡ listOf (kids list)) ⌝ }
+    ensures { λ r. ⌜ r ≡ listOf (recount idx info (kids list)) ⌝ }
+{
+    let out = list.remove(idx);
+    let kid = out.kid;
+    let new = Kid {
+        slot: kid.slot,
+        info: info,
+    };
+    out.list.insert(idx, new).list
+}
+
+// The children of the list in a slot, the one at an index with other counts.
+fn recounted(m: &[u8], slot: usize, idx: usize, info: TextInfo) -> Listed
+    ensures { λ r. ⌜ Listing (recounted (now (m .entry)) slot idx info) (listOf []) r ⌝ }
+{
+    let found = load(m, slot);
+    let may = found.verdict;
+    let Verdict::Accepted = may else {
+        return found;
+    };
+    let list = found.list;
+    if list.len <= idx {
+        return Listed {
+            verdict: Verdict::Refused(Refusal::Place),
+            list: NodeChildren::new(),
+        };
+    }
+    Listed {
+        verdict: Verdict::Accepted,
+        list: recount(list, idx, info),
+    }
+}
+
+// These children become those of the list in a slot: refused by 2 where their counts have more than 32 bits.
+fn keep(m: &mut [u8], slot: usize, list: NodeChildren) -> Edit
+    requires { ⌜ (outside (now m) slot ≡ false) × (list .len ≤ 16) ⌝ }
+    ensures { λ r. ⌜ Stepped (keeping (now (m .entry)) slot list) (now (m .entry)) r (now (m .exit)) ⌝ }
+{
+    match list_info(list) {
+        Info::Refused(r) => Edit::Refused(r),
+        Info::Is(info) => {
+            store(m, slot, list);
+            if list.len < MIN_LEN {
+                return Edit::Small(info);
+            }
+            Edit::Same(info)
+        }
+    }
+}
+
+// Two lists with these counts, one in a slot and one in the first free slot.
+fn lay_two(
+    m: &mut [u8],
+    slot: usize,
+    left: NodeChildren,
+    info: TextInfo,
+    right: NodeChildren,
+    other: TextInfo,
+) -> Edit
+    requires { ⌜ (outside (now m) slot ≡ false) × (left .len ≤ 16) × (right .len ≤ 16) ⌝ }
+    ensures { λ r. ⌜ Stepped (laying (now (m .entry)) slot left info right other) (now (m .entry)) r (now (m .exit)) ⌝ }
+{
+    match take_slot(m) {
+        Number::Refused(r) => Edit::Refused(r),
+        Number::Is(new) => {
+            store(m, slot, left);
+            store(m, new, right);
+            Edit::Split(info, new, other)
+        }
+    }
+}
+
+// The same where the counts of each have 32 bits, else refused by 2.
+fn part(m: &mut [u8], slot: usize, left: NodeChildren, right: NodeChildren) -> Edit
+    requires { ⌜ (outside (now m) slot ≡ false) × (left .len ≤ 16) × (right .len ≤ 16) ⌝ }
+    ensures { λ r. ⌜ Stepped (parting (now (m .entry)) slot left right) (now (m .entry)) r (now (m .exit)) ⌝ }
+{
+    match list_info(left) {
+        Info::Refused(r) => Edit::Refused(r),
+        Info::Is(info) => match list_info(right) {
+            Info::Refused(r) => Edit::Refused(r),
+            Info::Is(other) => lay_two(m, slot, left, info, right, other),
+        },
+    }
+}
+
+// One child more, before the one at an index or behind the last.
+fn add(m: &mut [u8], slot: usize, list: NodeChildren, at: usize, item: Kid) -> Edit
+    requires { ⌜ (outside (now m) slot ≡ false) × (at ≤ list .len) × (list .len ≤ 16) ⌝ }
+    ensures { λ r. ⌜ Stepped (adding (now (m .entry)) slot at item list) (now (m .entry)) r (now (m .exit)) ⌝ }
+{
+    let n = list.len;
+    if n < MAX_LEN {
+        return keep(m, slot, list.insert(at, item).list);
+    }
+    let two = insert_split(list, at, item);
+    part(m, slot, two.left, two.right)
+}
+
+// The child at an index has these counts now.
+pub fn put_one(m: &mut [u8], slot: usize, idx: usize, info: TextInfo) -> Edit
+    ensures { λ r. ⌜ Stepped (onePut (now (m .entry)) slot idx info) (now (m .entry)) r (now (m .exit)) ⌝ }
+{
+    let family = recounted(m, slot, idx, info);
+    let may = family.verdict;
+    match may {
+        Verdict::Refused(r) => Edit::Refused(r),
+        Verdict::Accepted => keep(m, slot, family.list),
+    }
+}
+
+// The child at an index became two: these are its counts now, and the slot and the counts of a new child behind it.
+pub fn put_two(
+    m: &mut [u8],
+    slot: usize,
+    idx: usize,
+    info: TextInfo,
+    right: usize,
+    other: TextInfo,
+) -> Edit
+    ensures { λ r. ⌜ Stepped (twoPut (now (m .entry)) slot idx info right other) (now (m .entry)) r (now (m .exit)) ⌝ }
+{
+    if LAST_SLOT < right {
+        return Edit::Refused(Refusal::Memory);
+    }
+    let new = Kid {
+        slot: right as u32,
+        info: other,
+    };
+    let family = recounted(m, slot, idx, info);
+    let may = family.verdict;
+    match may {
+        Verdict::Refused(r) => Edit::Refused(r),
+        Verdict::Accepted => add(m, slot, family.list, idx + 1, new),
+    }
+}
