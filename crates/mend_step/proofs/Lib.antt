@@ -1,0 +1,11 @@
+pub mod Rules
+pub mod Laid
+pub mod Freed
+pub mod Pairs
+pub mod Beside
+pub mod JoinedLists
+pub mod JoinedLeaves
+pub mod Settled
+pub mod Asked
+pub mod Around
+pub mod Mends
