@@ -58,7 +58,7 @@ pub fn chars_of(m: &[u8]) -> usize
 }
 
 // The text of the leaf in a slot; empty where there is none.
-pub fn text_at(m: &[u8], slot: usize) -> &[u8]
+fn text_at(m: &[u8], slot: usize) -> &[u8]
     ensures { λ r. ⌜ (now r ≡ leafText (now (m .entry)) slot) × (length (now r) ≤ 512) ⌝ }
 {
     let Head::Leaf(n) = head_of(m, slot) else {
