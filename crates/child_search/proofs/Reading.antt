@@ -5,12 +5,20 @@ use mathlib.Core.List.{List, [], _∷_}
 use Prim.Native.Nat.{ℕ, suc, _+_, _-_, _≤_, _<_}
 use native.Mathlib.Nat.{sub-self}
 use native.Mathlib.Omega.{arith}
+use lib.Dec.{eqb}
 use lib.ListN.{length, take, getD}
+use borrow.Author.Tests.{eqb-false}
+use Rattle.plain.specs.Outcome.{Outcome.value, past}
 use Rattle.plain.proofs.Logic.{cut}
+use Rattle.plain.proofs.Outcome.{accepted, all-accepted}
+use Rattle.text_info.specs.Info.{zeros}
 use Rattle.text_info.specs.declared.TextSum.{TextSum}
 use Rattle.pool.specs.declared.Kid.{Kid}
 use Rattle.pool.specs.Slot.{noKid}
-use Rattle.child_search.specs.Sought.{plusInfo, sumFrom, searchFrom}
+use Rattle.node_children.specs.Kids.{kids, listOf}
+use Rattle.node_children.proofs.Lists.{kids-of}
+use Rattle.child_search.specs.declared.Measure.{Measure}
+use Rattle.child_search.specs.Sought.{plusInfo, sumFrom, total, stopsAt, mostOf, searchFrom, foundBy, searched}
 
 module _ (stops : TextSum → Bool) where
   -- r is found among ks, of which the first is the i-th child, with the sums s on its left
@@ -59,3 +67,18 @@ module _ (stops : TextSum → Bool) where
           → Read i s (k ∷ j ∷ ks) (cond t (i, s) (searchFrom stops (i + 1) (plusInfo s (k .info)) (j ∷ ks)))
       go true e h = here i s k (j ∷ ks) (λ g. e)
       go false e h = there i s k (j ∷ ks) (searchFrom stops (i + 1) (plusInfo s (k .info)) (j ∷ ks)) e h
+
+found-child : (by : Measure) (at : ℕ) (ks : List Kid) (i : ℕ) (l : TextSum) → 0 < length ks → foundBy by at ks ≡ (i, l) → i < length ks
+found-child by at [] i l h e = absurd (omega arith)
+found-child by at (k ∷ ks) i l h e = omega (arith, reads (stopsAt by at) 0 zeros k ks .child, ap (λ (r : ℕ × TextSum). r .0) e)
+
+-- THEOREM: what a search finds is a child
+pub searched-child : (ks : List Kid) (by : Measure) (at i : ℕ) (l : TextSum) → searched (listOf ks) by at ≡ value (i, l) → i < length ks
+unfolding searched listOf
+searched-child ks by at i l e =
+    let c = listOf ks in
+    let a = accepted 12 (eqb (length ks) 0) ((3, past at (mostOf by (total c))) ∷ (11, past (length ks) 16) ∷ []) (foundBy by at (kids c)) (i, l) e in
+    let b = accepted 3 (past at (mostOf by (total c))) ((11, past (length ks) 16) ∷ []) (foundBy by at (kids c)) (i, l) (a .1) in
+    let d = accepted 11 (past (length ks) 16) [] (foundBy by at (kids c)) (i, l) (b .1) in
+    found-child by at ks i l (let z = eqb-false (length ks) 0 (a .0) in cut 0 (length ks) (λ h. h) (λ h. absurd (z (omega arith))))
+    (ap (foundBy by at) (sym (kids-of ks)) ∙ all-accepted (foundBy by at (kids c)) (i, l) (d .1))

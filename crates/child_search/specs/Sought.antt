@@ -4,13 +4,15 @@ use mathlib.Core.Bool.{Bool, true, false, _||_, cond}
 use mathlib.Core.List.{List, [], _∷_}
 use Prim.Native.Nat.{ℕ, _+_, _*_, _≤_, _<_}
 use lib.Dec.{ltb, leb}
-use lib.ListN.{drop}
+use lib.ListN.{take, drop}
 use Rattle.plain.specs.Outcome.{Outcome, Outcome.value, Outcome.refused, ruled, past}
 use Rattle.answer.specs.Answers.{refusalNumber}
 use Rattle.text_info.specs.Info.{zeros}
 use Rattle.text_info.specs.declared.TextInfo.{TextInfo}
 use Rattle.text_info.specs.declared.TextSum.{TextSum}
 use Rattle.pool.specs.declared.Kid.{Kid}
+use Rattle.pool.specs.Slot.{regionOf, entries}
+use Rattle.pool.specs.Calls.{regionStart}
 use Rattle.node_children.specs.declared.NodeChildren.{NodeChildren}
 use Rattle.child_search.specs.declared.Sum.{Sum}
 use Rattle.child_search.specs.declared.Sum.the-variants as Sum·case
@@ -22,7 +24,7 @@ use Rattle.child_search.specs.declared.FoundRange.{FoundRange}
 use Rattle.child_search.specs.declared.FoundRange.the-variants as FoundRange·case
 use Rattle.child_search.specs.declared.Measure.{Measure}
 use Rattle.child_search.specs.declared.Measure.the-variants.{Bytes, Chars, Utf16, Breaks, CharEnds}
-use Rattle.node_children.specs.Kids.{kids}
+use Rattle.node_children.specs.Kids.{kids, listOf}
 use Rattle.node_children.specs.Calls.{noChild, tooLong}
 
 -- ── the answers on paper ──
@@ -119,6 +121,16 @@ foundBy m at ks = searchFrom (stopsAt m at) 0 zeros ks
 unfoldable pub searched : NodeChildren → Measure → ℕ → Outcome (ℕ × TextSum)
 unfolding ruled sumFrom searchFrom
 searched c m at = ruled (noChild c ∷ (3, past at (mostOf m (total c))) ∷ tooLong (c .len) ∷ []) (foundBy m at (kids c))
+
+-- an answer behind a call that must be accepted
+abbrev pub after : {A B : Type 0} → Outcome A → Outcome B → Outcome B
+after (value a) o = o
+after (refused n) o = refused n
+
+-- among the first n entries of slot s
+unfoldable pub searchedIn : List ℕ → ℕ → ℕ → Measure → ℕ → Outcome (ℕ × TextSum)
+unfolding searched listOf
+searchedIn m s n by at = after (regionStart m s) (cond (past n 16) (refused 11) (searched (listOf (take n (entries (regionOf m s)))) by at))
 
 -- a child and the chars on its left
 abbrev pub charsOf : ℕ × TextSum → ℕ × ℕ

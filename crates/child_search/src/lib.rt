@@ -1,15 +1,22 @@
 // The counts of a list's children added up, and the searches by these sums.
+use answer::Number;
 use answer::Refusal;
 use node_children::MAX_LEN;
 use node_children::NodeChildren;
+use pool::Entry;
+use pool::kid_of;
+use pool::region_start;
 use text_info::TextInfo;
 use text_info::TextSum;
 ghost use mathlib.Core.Path.{_≡_};
+ghost use mathlib.Core.Bool.{false};
 ghost use Prim.Native.Nat.{_<_, _≤_, min};
-ghost use lib.ListN.{drop};
+ghost use lib.ListN.{take, drop, getD};
 ghost use Rattle.plain.specs.Outcome.{mapped};
-ghost use Rattle.node_children.specs.Kids.{kids};
-ghost use Rattle.child_search.specs.Sought.{sum, found, foundChars, foundRange, total, combined, Within, Plus, Sought, Small, stopsAt, mostOf, searchFrom, searched, charsOf, searchedRange};
+ghost use Rattle.pool.specs.Slot.{regionOf, entries, noKid};
+ghost use Rattle.pool.specs.Calls.{outside};
+ghost use Rattle.node_children.specs.Kids.{kids, listOf};
+ghost use Rattle.child_search.specs.Sought.{sum, found, foundChars, foundRange, total, combined, Within, Plus, Sought, Small, stopsAt, mostOf, searchFrom, searched, searchedIn, charsOf, searchedRange};
 
 // The counts of all children.
 pub enum Sum {
@@ -131,6 +138,44 @@ fn seek(list: NodeChildren, m: Measure, at: u64, from: usize, acc: TextSum) -> S
     Spot { idx: i, left: left }
 }
 
+// The counts of an entry of a slot's child list.
+fn info_at(m: &[u8], slot: usize, i: usize) -> TextInfo
+    requires { ⌜ (outside (now m) slot ≡ false) × (i < 16) ⌝ }
+    ensures { λ r. ⌜ r ≡ getD (entries (regionOf (now (m .entry)) slot)) i noKid .info ⌝ }
+{
+    let Entry::Is(kid) = kid_of(m, slot, i) else {
+        return TextInfo {
+            bytes: 0,
+            chars: 0,
+            utf16_surrogates: 0,
+            line_breaks: 0,
+        };
+    };
+    kid.info
+}
+
+// A search among the first n entries of a slot. It reads none behind the child at which it stops: what it stops at is not past the end.
+fn seek_in(m: &[u8], slot: usize, n: usize, by: Measure, at: u64) -> Found
+    requires { ⌜ (outside (now m) slot ≡ false) × (0 < n) × (n ≤ 16) ⌝ }
+    ensures { λ r. ⌜ (found r ≡ searched (listOf (take n (entries (regionOf (now (m .entry)) slot)))) by at) × Small r ⌝ }
+{
+    let last = n - 1;
+    let mut left = TextSum::new();
+    let mut idx = 0;
+    while idx < last {
+        let next = plus(left, info_at(m, slot, idx));
+        if stops(by, at, next) {
+            return Found::At(idx, left);
+        }
+        left = next;
+        idx += 1;
+    }
+    if most(by, plus(left, info_at(m, slot, idx))) < at {
+        return Found::Refused(Refusal::Place);
+    }
+    Found::At(idx, left)
+}
+
 // The counts of the children added up.
 pub fn combined_info(list: NodeChildren) -> Sum
     ensures { λ r. ⌜ sum r ≡ combined list ⌝ }
@@ -158,6 +203,24 @@ pub fn search_by(list: NodeChildren, m: Measure, at: usize) -> Found
     let spot = seek(list, m, at as u64, 0, TextSum::new());
     let left = spot.left;
     Found::At(spot.idx, left)
+}
+
+// The same among the first n entries of a slot, where they lie.
+pub fn search_in(m: &[u8], slot: usize, n: usize, by: Measure, at: usize) -> Found
+    ensures { λ r. ⌜ (found r ≡ searchedIn (now (m .entry)) slot n by at) × Small r ⌝ }
+{
+    match region_start(m, slot) {
+        Number::Refused(r) => Found::Refused(r),
+        Number::Is(_) => {
+            if n == 0 {
+                return Found::Refused(Refusal::Side);
+            }
+            if MAX_LEN < n {
+                return Found::Refused(Refusal::Size);
+            }
+            seek_in(m, slot, n, by, at as u64)
+        }
+    }
 }
 
 // The child with a byte. The end is in the last child.

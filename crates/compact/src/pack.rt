@@ -2,9 +2,9 @@
 use answer::Number;
 use crlf::prev_break;
 use leaf_bytes::MAX_BYTES;
+use leaf_nodes::edit_leaf;
+use leaf_nodes::text_of;
 use node_children::NodeChildren;
-use nodes::edit_leaf;
-use nodes::text_of;
 use pool::Head;
 use pool::head_of;
 ghost use mathlib.Core.Path.{_≡_};

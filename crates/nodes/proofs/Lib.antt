@@ -3,7 +3,6 @@ pub mod Rules
 pub mod Laid
 pub mod Copied
 pub mod Put
-pub mod Halved
 pub mod Accepted
 pub mod Fitted
 pub mod Unique

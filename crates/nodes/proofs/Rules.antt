@@ -5,8 +5,8 @@ use mathlib.Core.List.{List, [], _∷_, _++_}
 use Prim.Native.Nat.{ℕ, _+_, _≤_, _<_}
 use native.Mathlib.Omega.{arith}
 use native.Mathlib.Numerals.{add-one}
-use lib.ListN.{length, take, drop, getD, length-take, length-drop}
-use lib.Seq.{length-take-le, take-suc, drop-cons}
+use lib.ListN.{length, take, drop, set, getD, length-take, length-drop}
+use lib.Seq.{length-take-le, getD-take, take-suc, drop-cons}
 use borrow.Author.Tests.{lt-ltb, le-ltb}
 use Rattle.plain.specs.Utf8.{validUtf8, decode}
 use Rattle.plain.specs.Outcome.{Outcome, Outcome.value, Outcome.refused, ruled, past, kept}
@@ -14,6 +14,7 @@ use Rattle.plain.proofs.Logic.{cut, or-none}
 use Rattle.plain.proofs.Outcome.{rule-applies, rule-passed, one-applies, one-passed, accepted, all-accepted}
 use Rattle.answer.specs.Answers.{refusalNumber}
 use Rattle.answer.specs.declared.Refusal.{Refusal}
+use Rattle.answer.specs.declared.Number.the-variants as Number·case
 use Rattle.answer.specs.declared.Verdict.{Verdict}
 use Rattle.answer.specs.declared.Verdict.the-variants as Verdict·case
 use Rattle.leaf_bytes.specs.Leaf.{leafOf}
@@ -23,25 +24,27 @@ use Rattle.text_info.specs.declared.TextInfo.{TextInfo}
 use Rattle.text_info.specs.declared.TextSum.{TextSum}
 use Rattle.text_info.specs.declared.Info.{Info}
 use Rattle.pool.specs.declared.Kid.{Kid}
-use Rattle.pool.specs.declared.Entry.{Entry}
-use Rattle.pool.specs.declared.Entry.the-variants as Entry·case
 use Rattle.pool.specs.Slot.{slotStart, lenOf, regionOf, entries, noKid, Fits, headPut, kidPut}
-use Rattle.pool.specs.Calls.{outside, noEntry, entry, kidOf, headSet, kidSet, Wrote}
+use Rattle.pool.specs.Calls.{outside, noEntry, regionStart, headSet, kidSet, Wrote}
 use Rattle.pool.proofs.Opened.{head-wrote}
 use Rattle.pool.proofs.Rules.{wrote-done}
 use Rattle.pool.proofs.Slots.{head-size}
 use Rattle.node_children.specs.declared.NodeChildren.{NodeChildren}
 use Rattle.node_children.specs.declared.Listed.{Listed}
+use Rattle.child_search.specs.declared.Found.{Found}
+use Rattle.child_search.specs.declared.Measure.{Measure}
 use Rattle.child_search.specs.declared.Sum.{Sum}
 use Rattle.child_search.specs.declared.Sum.the-variants as Sum·case
 use Rattle.node_children.specs.Kids.{kids, listOf, Listing}
-use Rattle.node_children.specs.Calls.{tooLong, pushed}
-use Rattle.child_search.specs.Sought.{sum, sumFrom, combined}
-use Rattle.node_children.proofs.Lists.{kids-of, is-kids}
-use Rattle.node_children.proofs.Rules.{listing-done, pushed-done}
+use Rattle.node_children.specs.Calls.{tooLong}
+use Rattle.child_search.specs.Sought.{sum, found, sumFrom, combined, searched, searchedIn}
+use Rattle.child_search.proofs.Reading.{searched-child}
+use Rattle.child_search.proofs.Walk.{few-in}
+use Rattle.node_children.proofs.Lists.{kids-of, is-kids, put-holds}
+use Rattle.node_children.proofs.Rules.{listing-done}
 use Rattle.nodes.specs.Node.{isLeaf, isList, childrenOf, textOf, tooWide, narrowed, totalOf, countsOf, lost, ill, kidsPut, listPut, Fitting}
-use Rattle.nodes.specs.Calls.{loaded, stored, Fitted, listCounted, counted}
-use Rattle.nodes.proofs.Heads.{one-refused, leaf-no-list, list-no-leaf, not-outside}
+use Rattle.nodes.specs.Calls.{loaded, listSearched, stored, Fitted, listCounted, counted}
+use Rattle.nodes.proofs.Heads.{one-refused, leaf-no-list, list-no-leaf, list-says, not-outside}
 
 -- ── a sum in 32 bits ──
 
@@ -91,24 +94,19 @@ module _ (r : Sum) (c : NodeChildren) (promise : sum r ≡ combined c) where
 
 -- ── a list read ──
 
-pub entry-there : (r : Entry) (m : List ℕ) (s i : ℕ) (q : Refusal) → entry r ≡ kidOf m s i → r ≡ Entry·case.Refused q → slotStart s + 640 ≤ length m → i < 16 → ⊥
-unfolding kidOf
-entry-there r m s i q p e h k =
-    let v = getD (entries (regionOf m s)) i noKid in
-    never (refusalNumber q) v
-    (sym (ap entry e) ∙ p ∙ rule-passed 2 (outside m s) (noEntry i ∷ []) v (not-outside m s h) ∙ one-passed 3 (past i 15) v (le-ltb 15 i (omega arith)))
-
-pub pushed-turn : (l : NodeChildren) (es : List Kid) (i : ℕ) (k : Kid) (r : Listed) → length es ≡ 16 → i < 16 → l ≡ listOf (take i es) → k ≡ getD es i noKid
-    → Listing (pushed l k) l r → r .list ≡ listOf (take (i + 1) es)
+-- a turn of the loop that reads a list: its children up to i, and the one at i set behind them
+pub read-turn : (l : NodeChildren) (es : List Kid) (i : ℕ) (k : Kid) → length es ≡ 16 → i < 16 → l ≡ listOf (take i es) → k ≡ getD es i noKid
+    → _≡_ {A = NodeChildren} (record { len = i + 1; arr = set (l .arr) i k }) (listOf (take (i + 1) es))
 unfolding listOf
-pushed-turn l es i k r n h e f w =
+read-turn l es i k n h e f =
     let z : l .len ≡ i = ap (λ (c : NodeChildren). c .len) e ∙ length-take-le i es (omega arith) in
     let t : kids l ++ (k ∷ []) ≡ take (i + 1) es =
     ap (λ (x : List Kid). x ++ (k ∷ [])) (is-kids l (take i es) e)
     ∙ ap (λ (x : Kid). take i es ++ (x ∷ [])) f
     ∙ sym (take-suc es i noKid (omega arith))
     ∙ ap (λ (j : ℕ). take j es) (sym (add-one i)) in
-    w .list ∙ ap (kept l) (pushed-done l k (omega arith)) ∙ ap listOf t
+    let put = put-holds l k (omega arith) (e ∙ ap listOf (sym (is-kids l (take i es) e))) in
+    ap (λ (j : ℕ). record { len = j + 1; arr = set (l .arr) j k }) (sym z) ∙ put .is ∙ ap listOf t
 
 module _ (m : List ℕ) (s : ℕ) where
   pub loaded-is : isList m s ≡ true → loaded m s ≡ value (listOf (childrenOf m s))
@@ -127,6 +125,38 @@ module _ (m : List ℕ) (s : ℕ) where
   load-not n r e z w =
       let y : _≡_ {A = Outcome NodeChildren} (refused n) (loaded m s) = ap (λ (k : ℕ). refused k) z ∙ sym (loaded-not e) in
       subst (λ (o : Outcome NodeChildren). Listing o (listOf []) r) y w
+
+  module _ (by : Measure) (at : ℕ) where
+    pub search-is : isList m s ≡ true → listSearched m s by at ≡ searched (listOf (childrenOf m s)) by at
+    unfolding listSearched
+    search-is e = rw e
+
+    pub search-not : isList m s ≡ false → listSearched m s by at ≡ refused 2
+    unfolding listSearched
+    search-not e = rw e
+
+    region-is : slotStart s + 640 ≤ length m → value (slotStart s + 128) ≡ regionStart m s
+    unfolding regionStart
+    region-is h = sym (one-passed 2 (outside m s) (slotStart s + 128) (not-outside m s h))
+
+    pub search-done : (n : ℕ) (f : Found) → isList m s ≡ true → lenOf m s ≡ n → found f ≡ searchedIn m s n by at → found f ≡ listSearched m s by at
+    search-done n f e z p =
+        let l = list-says m s e in
+        few-in m s n by at (Number·case.Is (slotStart s + 128)) (region-is (l .0)) (slotStart s + 128) refl f (omega (arith, l .2)) p
+        ∙ ap (λ (k : ℕ). searched (listOf (take k (entries (regionOf m s)))) by at) (sym z)
+        ∙ sym (search-is e)
+
+    -- THEOREM: what is found is a child of the list, and its entry is that of the slot
+    pub search-child : (i : ℕ) (left : TextSum) → listSearched m s by at ≡ value (i, left)
+        → (isList m s ≡ true) × (i < lenOf m s) × (getD (entries (regionOf m s)) i noKid ≡ getD (childrenOf m s) i noKid)
+    search-child i left e = go (isList m s) refl
+      where
+        go : (b : Bool) → isList m s ≡ b → (isList m s ≡ true) × (i < lenOf m s) × (getD (entries (regionOf m s)) i noKid ≡ getD (childrenOf m s) i noKid)
+        go true t =
+            let h : i < lenOf m s =
+            omega (arith, searched-child (childrenOf m s) by at i left (sym (search-is t) ∙ e), length-take (lenOf m s) (entries (regionOf m s))) in
+            (t, h, sym (getD-take (lenOf m s) (entries (regionOf m s)) i noKid h))
+        go false t = absurd (never 2 _ (sym (search-not t) ∙ e))
 
   -- ── counts ──
 

@@ -13,18 +13,26 @@ use Rattle.answer.specs.declared.Verdict.{Verdict}
 use Rattle.answer.specs.declared.Verdict.the-variants as Verdict·case
 use Rattle.node_text.specs.Texts.{edited, insertedSplit}
 use Rattle.text_info.specs.declared.TextInfo.{TextInfo}
+use Rattle.text_info.specs.declared.TextSum.{TextSum}
 use Rattle.pool.specs.Slot.{lenOf, regionOf}
 use Rattle.pool.specs.declared.Kid.{Kid}
 use Rattle.pool.specs.Calls.{outside}
 use Rattle.node_children.specs.declared.NodeChildren.{NodeChildren}
 use Rattle.node_children.specs.Kids.{kids, listOf}
 use Rattle.node_children.specs.Calls.{tooLong}
+use Rattle.child_search.specs.declared.Measure.{Measure}
+use Rattle.child_search.specs.Sought.{searched}
 use Rattle.nodes.specs.Node.{isLeaf, isList, textOf, childrenOf, tooWide, narrowed, totalOf, countsOf, lost, ill, leafPut, listPut, Fitting}
 
 -- the list in a slot
 unfoldable pub loaded : List ℕ → ℕ → Outcome NodeChildren
 unfolding ruled isList listOf
 loaded m s = ruled ((2, not (isList m s)) ∷ []) (listOf (childrenOf m s))
+
+-- the child of the list in a slot that an index lies in, and the counts on its left
+unfoldable pub listSearched : List ℕ → ℕ → Measure → ℕ → Outcome (ℕ × TextSum)
+unfolding isList listOf searched
+listSearched m s by at = cond (isList m s) (searched (listOf (childrenOf m s)) by at) (refused 2)
 
 -- the memory with a list in a slot
 unfoldable pub stored : List ℕ → ℕ → NodeChildren → Outcome (List ℕ)

@@ -6,15 +6,16 @@ use Prim.Native.Nat.{ℕ, _+_, _≤_, _<_}
 use native.Mathlib.Omega.{arith}
 use lib.Dec.{eqb}
 use lib.ListN.{length, getD}
-use borrow.Author.Tests.{ltb-false, eqb-true, eqb-false}
+use borrow.Author.Tests.{ltb-false, le-ltb, eqb-true, eqb-false}
 use Rattle.plain.specs.Outcome.{Outcome, Outcome.value, Outcome.refused, past}
 use Rattle.plain.proofs.Logic.{neither}
-use Rattle.plain.proofs.Outcome.{accepted, all-accepted}
-use Rattle.answer.specs.Answers.{number}
+use Rattle.plain.proofs.Outcome.{rule-passed, one-passed, accepted, all-accepted}
+use Rattle.answer.specs.Answers.{refusalNumber, number}
 use Rattle.answer.specs.declared.Refusal.{Refusal}
 use Rattle.answer.specs.declared.Number.{Number}
 use Rattle.answer.specs.declared.Number.the-variants as Number·case
 use Rattle.answer.specs.declared.Verdict.the-variants as Verdict·case
+use Rattle.leaf_bytes.proofs.Opened.{never}
 use Rattle.pool.specs.declared.Kid.{Kid}
 use Rattle.pool.specs.declared.Head.{Head}
 use Rattle.pool.specs.declared.Entry.{Entry}
@@ -75,6 +76,14 @@ entry-opened r m s i k p e =
     let a = accepted 2 (outside m s) (noEntry i ∷ []) v k (sym p ∙ ap entry e) in
     let b = accepted 3 (past i 15) [] v k (a .1) in
     (inside m s (a .0), (let h = ltb-false 15 i (b .0) in omega arith), sym (all-accepted v k (b .1)))
+
+-- of a slot in the memory no entry is refused
+pub entry-there : (r : Entry) (m : List ℕ) (s i : ℕ) (q : Refusal) → entry r ≡ kidOf m s i → r ≡ Entry·case.Refused q → slotStart s + 640 ≤ length m → i < 16 → ⊥
+unfolding kidOf
+entry-there r m s i q p e h k =
+    let v = getD (entries (regionOf m s)) i noKid in
+    never (refusalNumber q) v
+    (sym (ap entry e) ∙ p ∙ rule-passed 2 (outside m s) (noEntry i ∷ []) v (le-ltb (length m) (slotStart s + 640) h) ∙ one-passed 3 (past i 15) v (le-ltb 15 i (omega arith)))
 
 -- ── a write ──
 

@@ -1,9 +1,8 @@
 -- `renew` meets its contract.
 use mathlib.Core.Path.{ap}
 use Rattle.pool.specs.declared.Kid.{Kid}
-use Rattle.pool.proofs.Opened.{entry-opened}
+use Rattle.pool.proofs.Opened.{entry-opened, entry-there}
 use Rattle.nodes.proofs.Heads.{inside}
-use Rattle.nodes.proofs.Rules.{entry-there}
 use borrow.Author.Needs.{needs}
 use Rattle.child_update.proofs.renew.Statement.{statement}
 use Rattle.child_update.proofs.renew.Tie as tie

@@ -1,4 +1,4 @@
--- `read_list` meets its contract: each turn reads one entry and puts it behind the others.
+-- `read_list` meets its contract: each turn reads one entry and sets it behind the others.
 use mathlib.Core.Path.{_≡_, ap, _∙_}
 use Prim.Native.Nat.{ℕ, _-_, _≤_}
 use native.Mathlib.Omega.{arith}
@@ -6,10 +6,10 @@ use lib.ListN.{take}
 use borrow.Author.Needs.{needs}
 use Rattle.pool.specs.Slot.{regionOf, entries}
 use Rattle.pool.proofs.Kids.{entries-length}
-use Rattle.pool.proofs.Opened.{entry-opened}
+use Rattle.pool.proofs.Opened.{entry-opened, entry-there}
 use Rattle.node_children.specs.Kids.{listOf}
 use Rattle.nodes.proofs.Heads.{inside}
-use Rattle.nodes.proofs.Rules.{entry-there, pushed-turn}
+use Rattle.nodes.proofs.Rules.{read-turn}
 use Rattle.nodes.proofs.read_list.Statement.{statement}
 use Rattle.nodes.proofs.read_list.Tie as tie
 
@@ -40,8 +40,11 @@ returns c =
     let p = c .before .before .before .before .before .before .before .pre in
     absurd (entry-there (c .before .before .kid-of .result) (a .m .now) (a .slot) _ _ (c .before .before .kid-of .ensures) (c .enum-told .given .1) (inside (a .m .now) (a .slot) (p .0)) (omega arith))
 
-push-requires : tie.Need-push-requires Inv-loop μ-loop
-push-requires c κs = search needs
+mul-kid : tie.Need-mul-kid Inv-loop μ-loop
+mul-kid c = omega arith
+
+element-set-from-kid : tie.Need-element-set-from-kid Inv-loop μ-loop
+element-set-from-kid c = omega arith
 
 add-i : tie.Need-add-i Inv-loop μ-loop
 add-i c = omega arith
@@ -51,10 +54,10 @@ loop-less c = omega arith
 
 loop-again : tie.Need-loop-again Inv-loop μ-loop
 loop-again c =
-    let a = c .before .before .before .before .before .before .before .before .before .before .args in
-    let l = c .before .before .before .before .before .before .before .loop in
-    let o = entry-opened (c .before .before .before .before .before .kid-of .result) (a .m .now) (a .slot) (l .i) _ (c .before .before .before .before .before .kid-of .ensures) (c .before .before .before .kid .given .1) in
-    (omega arith, pushed-turn (l .list) (entries (regionOf (a .m .now) (a .slot))) (l .i) _ (c .before .push .result) (entries-length (regionOf (a .m .now) (a .slot))) (o .1) (l .inv .1) (o .2) (c .before .push .ensures))
+    let a = c .before .before .before .before .before .before .before .before .args in
+    let l = c .before .before .before .before .before .loop in
+    let o = entry-opened (c .before .before .before .kid-of .result) (a .m .now) (a .slot) (l .i) _ (c .before .before .before .kid-of .ensures) (c .before .kid .given .1) in
+    (omega arith, read-turn (l .list) (entries (regionOf (a .m .now) (a .slot))) (l .i) _ (entries-length (regionOf (a .m .now) (a .slot))) (o .1) (l .inv .1) (o .2))
 
 returns-2 : tie.Need-returns-2 Inv-loop μ-loop
 returns-2 c =
@@ -75,7 +78,8 @@ read-list-spec =
     enum-known-kid
     enum-told
     returns
-    push-requires
+    mul-kid
+    element-set-from-kid
     add-i
     loop-less
     loop-again

@@ -8,9 +8,8 @@ use borrow.Author.Needs.{needs}
 use borrow.Author.Tests.{not-true, not-false}
 use borrow.Fn.Kinds.{In}
 use borrow.Fn.PlainCycle.{Measures, is, falls, and}
-use Rattle.pool.proofs.Opened.{entry-opened}
+use Rattle.pool.proofs.Opened.{entry-opened, entry-there}
 use Rattle.nodes.proofs.Heads.{inside, not-outside, leaf-says, list-says}
-use Rattle.nodes.proofs.Rules.{entry-there}
 use Rattle.child_search.specs.Sought.{Within}
 use Rattle.child_search.proofs.Sums.{within-none, within-more, within-plus}
 use Rattle.tree_check.specs.Met.{KidsFine, kidsTo}

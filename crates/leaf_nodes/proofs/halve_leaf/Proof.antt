@@ -1,11 +1,11 @@
 -- `halve_leaf` meets its contract: two slots, a leaf in the first, or the call is refused.
 use mathlib.Core.Path.{refl}
 use Rattle.nodes.proofs.Heads.{not-outside, leaf-says, head-leaf, head-no-leaf}
 use Rattle.nodes.proofs.Copied.{halve-same, halve-outside, halve-none, halve-refused, halve-leaf}
 use Rattle.nodes.proofs.Laid.{region-outside, region-inside}
 use borrow.Author.Needs.{needs}
-use Rattle.nodes.proofs.halve_leaf.Statement.{statement}
-use Rattle.nodes.proofs.halve_leaf.Tie as tie
+use Rattle.leaf_nodes.proofs.halve_leaf.Statement.{statement}
+use Rattle.leaf_nodes.proofs.halve_leaf.Tie as tie
 
 returns : tie.Need-returns
 returns c = let a = c .before .before .before .args in halve-refused (a .m .now) (a .slot) (a .at) (a .piece .now) (a .right) _ (halve-same (a .m .now) (a .slot) (a .at) (a .piece .now) (a .right) (c .if1 .taken)) refl

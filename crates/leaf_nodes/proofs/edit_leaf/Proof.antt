@@ -1,10 +1,10 @@
 -- `edit_leaf` meets its contract: the slot holds a leaf, or the call is refused.
 use mathlib.Core.Path.{refl}
 use Rattle.nodes.proofs.Heads.{not-outside, leaf-says, head-leaf, head-no-leaf}
 use Rattle.nodes.proofs.Copied.{edit-leaf, edit-refused}
 use borrow.Author.Needs.{needs}
-use Rattle.nodes.proofs.edit_leaf.Statement.{statement}
-use Rattle.nodes.proofs.edit_leaf.Tie as tie
+use Rattle.leaf_nodes.proofs.edit_leaf.Statement.{statement}
+use Rattle.leaf_nodes.proofs.edit_leaf.Tie as tie
 
 -- `edit_leaf` meets its contract.
 

@@ -2,11 +2,11 @@
 use mathlib.Core.Path.{refl}
 use native.Mathlib.Omega.{arith}
 use Rattle.pool.proofs.Opened.{region-opened}
 use Rattle.nodes.proofs.Heads.{inside}
 use Rattle.nodes.proofs.Laid.{region-there, edit-not, edit-done}
 use borrow.Author.Needs.{needs}
-use Rattle.nodes.proofs.edit_at.Statement.{statement}
-use Rattle.nodes.proofs.edit_at.Tie as tie
+use Rattle.leaf_nodes.proofs.edit_at.Statement.{statement}
+use Rattle.leaf_nodes.proofs.edit_at.Tie as tie
 
 region-start-requires : tie.Need-region-start-requires
 region-start-requires c κs = search needs

@@ -1,10 +1,10 @@
 -- `text_of` meets its contract: the slot holds a leaf, or the call is refused.
 use mathlib.Core.Path.{refl}
 use Rattle.nodes.proofs.Heads.{not-outside, leaf-says, head-leaf, head-no-leaf}
 use Rattle.nodes.proofs.Copied.{read-done, read-not}
 use borrow.Author.Needs.{needs}
-use Rattle.nodes.proofs.text_of.Statement.{statement}
-use Rattle.nodes.proofs.text_of.Tie as tie
+use Rattle.leaf_nodes.proofs.text_of.Statement.{statement}
+use Rattle.leaf_nodes.proofs.text_of.Tie as tie
 
 head-of-requires : tie.Need-head-of-requires
 head-of-requires c κs = search needs

@@ -3,12 +3,12 @@ use mathlib.Core.Path.{refl, sym}
 use native.Mathlib.Omega.{arith}
 use lib.Seq.{length-take-le}
 use Rattle.pool.proofs.Opened.{region-opened}
 use Rattle.nodes.proofs.Heads.{inside}
 use Rattle.nodes.proofs.Laid.{region-there}
-use Rattle.nodes.proofs.Halved.{halve-not, side-long, side-small, right-there, halve-done}
+use Rattle.leaf_nodes.proofs.Halved.{halve-not, side-long, side-small, right-there, halve-done}
 use borrow.Author.Needs.{needs}
-use Rattle.nodes.proofs.halve_by.Statement.{statement}
-use Rattle.nodes.proofs.halve_by.Tie as tie
+use Rattle.leaf_nodes.proofs.halve_by.Statement.{statement}
+use Rattle.leaf_nodes.proofs.halve_by.Tie as tie
 
 region-start-requires : tie.Need-region-start-requires
 region-start-requires c κs = search needs

@@ -1,12 +1,12 @@
 -- `copy_text` meets its contract: the text is the part of the memory that is lent, put where nothing was.
 use native.Mathlib.Omega.{arith}
 use Rattle.pool.proofs.Opened.{region-opened}
 use Rattle.nodes.proofs.Heads.{inside}
 use Rattle.nodes.proofs.Laid.{region-there, text-lent}
 use Rattle.nodes.proofs.Copied.{copy-short, copy-done}
 use borrow.Author.Needs.{needs}
-use Rattle.nodes.proofs.copy_text.Statement.{statement}
-use Rattle.nodes.proofs.copy_text.Tie as tie
+use Rattle.leaf_nodes.proofs.copy_text.Statement.{statement}
+use Rattle.leaf_nodes.proofs.copy_text.Tie as tie
 
 region-start-requires : tie.Need-region-start-requires
 region-start-requires c κs = search needs
