@@ -58,7 +58,7 @@ pub fn chars_of(m: &[u8]) -> usize
 }
 
 // The text of the leaf in a slot; empty where there is none.
-fn text_at(m: &[u8], slot: usize) -> &[u8]
+pub fn text_at(m: &[u8], slot: usize) -> &[u8]
     ensures { λ r. ⌜ (now r ≡ leafText (now (m .entry)) slot) × (length (now r) ≤ 512) ⌝ }
 {
     let Head::Leaf(n) = head_of(m, slot) else {
@@ -71,7 +71,7 @@ fn text_at(m: &[u8], slot: usize) -> &[u8]
 }
 
 // How much a is above b.
-fn above(a: usize, b: usize) -> usize
+pub fn above(a: usize, b: usize) -> usize
     ensures { λ r. ⌜ r ≡ a - b ⌝ }
 {
     if a < b {
@@ -98,7 +98,7 @@ pub fn byte_in(text: &[u8], i: usize) -> usize
 }
 
 // The leaf that an index of the note's text lies in.
-fn spot_of(m: &[u8], by: Measure, at: usize) -> Spot
+pub fn spot_of(m: &[u8], by: Measure, at: usize) -> Spot
     ensures { λ r. ⌜ (spot r ≡ spotOf (now (m .entry)) by at) × Bounded 255 r ⌝ }
 {
     let kid = root(m);

@@ -1,13 +1,11 @@
 -- The laws of the steps: children that are fine and lie apart, stored in the list whose slot is theirs, are what the edit made of it. A step spends
 -- at most one free slot.
 use mathlib.Core.Path.{_≡_, refl, sym, ap, _∙_}
-use mathlib.Core.Bool.{Bool, true, false, not, _&&_, cond}
+use mathlib.Core.Bool.{Bool, true, false, not, _&&_}
 use mathlib.Core.List.{List, [], _∷_, _++_, append-nil, map}
 use Prim.Native.Nat.{ℕ, suc, _+_, _≤_, _<_}
 use native.Mathlib.Omega.{arith}
-use lib.Dec.{ltb}
 use lib.ListN.{length, length-append}
-use borrow.Author.Tests.{ltb-true, ltb-false}
 use Rattle.plain.specs.Count.{crLast, lfFirst}
 use Rattle.plain.specs.Outcome.{Outcome, Outcome.value}
 use Rattle.pool.specs.declared.Kid.{Kid}
@@ -22,15 +20,16 @@ use Rattle.tree.proofs.Frame.{KeptAll, kept-all}
 use Rattle.note_head.specs.Head.{freeOf}
 use Rattle.slots.specs.Slots.{takenMemory}
 use Rattle.slots.proofs.Laws.{Taken, first-there, taken-value, taken-is}
-use Rattle.edits.specs.Made.{Made, Made.same, Made.split, Made.small, sized}
+use Rattle.edits.specs.Made.{Made, Made.split, sized}
 use Rattle.became.specs.Became.{usesAll, bytesAll, free, spare, Slotted, Became}
 use Rattle.became.specs.Grown.{kid, MadeIs}
-use Rattle.became.proofs.Rules.{became-more, same-length, beside}
+use Rattle.became.proofs.Rules.{same-length, beside}
 use Rattle.list_step.specs.Steps.{keeping, laying, parting}
 use Rattle.list_step.proofs.Rules.{list-len}
 use Rattle.list_step.proofs.Stored.{keeping-is, laying-by, parting-is}
 use Rattle.list_step.proofs.Totals.{filled}
-use Rattle.list_step.proofs.Family.{Family, countsOf, narrow-enough, is-sound, has-many, is-told, is-became}
+use Rattle.list_step.proofs.Laid.{made-more}
+use Rattle.list_step.proofs.Family.{Family, countsOf, narrow-enough, family-told, laid-made, put-laid, is-sound, is-told, is-became}
 
 -- a step is accepted, and made this of the node in slot s
 pub record Makes (o : Outcome (Made × List ℕ)) (m : List ℕ) (n : ℕ) (u : ℕ → ℕ) (h s : ℕ) (t : List ℕ) : Type 0 where
@@ -38,11 +37,6 @@ pub record Makes (o : Outcome (Made × List ℕ)) (m : List ℕ) (n : ℕ) (u : 
   pub later : List ℕ
   pub accepted : o ≡ value (made, later)
   pub is : MadeIs m later n 1 u h s t made
-
--- a family of its own
-seam-one : (m : List ℕ) (h : ℕ) (k : Kid) → seamless (map (below m h) (k ∷ [])) ≡ true
-unfolding seamless
-seam-one m h k = refl
 
 -- two texts
 seam-pair : (a b : List ℕ) → (crLast a && lfFirst b) ≡ false → seamless (a ∷ b ∷ []) ≡ true
@@ -59,7 +53,7 @@ between m g a (k ∷ r) e s h =
     ∙ seam-at (below m g) (fine m g) (filled m g) a k r (every-left (fine m g) a (k ∷ r) e) s
 
 -- the text of one child
-text-one : (m : List ℕ) (h : ℕ) (k : Kid) → bytesAll m h (k ∷ []) ≡ below m h k
+pub text-one : (m : List ℕ) (h : ℕ) (k : Kid) → bytesAll m h (k ∷ []) ≡ below m h k
 text-one m h k = join-cons (below m h) k [] ∙ ap (λ (l : List ℕ). below m h k ++ l) (join-none (below m h)) ∙ append-nil (below m h k)
 
 four : (g : ℕ) → leastAt (suc g) ≡ 4
@@ -68,6 +62,13 @@ four g = refl
 
 -- ── one list ──
 
+-- the step, where the counts of the children fit 32 bits
+kept-is : (m : List ℕ) (p : ℕ) (ks : List Kid) → tooWide (totalOf ks) ≡ false → keeping m p (listOf ks) ≡ value (sized 4 (length ks) (countsOf ks), listPut m p (listOf ks))
+kept-is m p ks e =
+    keeping-is m p (listOf ks) (ap (λ (l : List Kid). tooWide (totalOf l)) (kids-of ks) ∙ e)
+    ∙ ap (λ (l : List Kid). value (sized 4 (listOf ks .len) (narrowed (totalOf l)), listPut m p (listOf ks))) (kids-of ks)
+    ∙ ap (λ (j : ℕ). value (sized 4 j (countsOf ks), listPut m p (listOf ks))) (list-len ks)
+
 module _ (m : List ℕ) (n g p : ℕ) (ks : List Kid) (f : Family m n g p ks) where
   abbrev u : ℕ → ℕ
   u x = hit p x + usesAll m g ks x
@@ -75,37 +76,20 @@ module _ (m : List ℕ) (n g p : ℕ) (ks : List Kid) (f : Family m n g p ks) wh
   abbrev after : List ℕ
   after = listPut m p (listOf ks)
 
-  became-one : Became m after n 1 u (suc g) (kid p (countsOf ks) ∷ []) (bytesAll m g ks)
-  became-one = became-more m after n 0 u (suc g) (kid p (countsOf ks) ∷ []) (bytesAll m g ks) (is-became m n g p ks f) 1 (omega arith)
-
   pub fine-list : 4 ≤ length ks → fine after (suc g) (kid p (countsOf ks)) ≡ true
   fine-list h =
       both (sound after (leastAt (suc g)) (suc g) p) (toldRight after (suc g) (kid p (countsOf ks))) (is-sound m n g p ks f (leastAt (suc g)) (omega (arith, four g))) (is-told m n g p ks f)
 
-  kept-is : keeping m p (listOf ks) ≡ value (sized 4 (length ks) (countsOf ks), after)
-  kept-is =
-      keeping-is m p (listOf ks) (ap (λ (l : List Kid). tooWide (totalOf l)) (kids-of ks) ∙ narrow-enough m n g p ks f)
-      ∙ ap (λ (l : List Kid). value (sized 4 (listOf ks .len) (narrowed (totalOf l)), after)) (kids-of ks)
-      ∙ ap (λ (j : ℕ). value (sized 4 j (countsOf ks), after)) (list-len ks)
-
   -- THEOREM: children stored in one list
   pub keep-makes : Makes (keeping m p (listOf ks)) m n u (suc g) p (bytesAll m g ks)
-  keep-makes = record { made = sized 4 (length ks) (countsOf ks); later = after; accepted = kept-is; is = go (ltb (length ks) 4) refl }
-    where
-      go : (b : Bool) → ltb (length ks) 4 ≡ b → MadeIs m after n 1 u (suc g) p (bytesAll m g ks) (cond b (small (countsOf ks)) (same (countsOf ks)))
-      go true e =
-          record {
-            became = became-one;
-            good = is-sound m n g p ks f 0 (omega arith);
-            told = is-told m n g p ks f;
-            few = omega (arith, has-many m n g p ks f, four g, ltb-true (length ks) 4 e);
-          }
-      go false e =
-          record {
-            became = became-one;
-            each = every-cons (fine after (suc g)) (kid p (countsOf ks)) [] (fine-list (ltb-false (length ks) 4 e)) (every-none (fine after (suc g)));
-            seams = seam-one after (suc g) (kid p (countsOf ks));
-          }
+  keep-makes =
+      let made = sized 4 (length ks) (countsOf ks) in
+      record {
+        made = made;
+        later = after;
+        accepted = kept-is m p ks (narrow-enough m n g p ks f);
+        is = made-more m after n 0 1 u (suc g) p (bytesAll m g ks) made (laid-made m after n g p ks f (put-laid m n g p ks f) (countsOf ks) (family-told m n g p ks f)) (omega arith);
+      }
 
 -- ── two lists ──
 

@@ -11,7 +11,7 @@ use Rattle.plain.specs.Outcome.{Outcome, Outcome.value}
 use Rattle.plain.proofs.Logic.{cut}
 use Rattle.text_info.specs.declared.TextInfo.{TextInfo}
 use Rattle.pool.specs.declared.Kid.{Kid}
-use Rattle.pool.specs.Slot.{lenOf, noKid}
+use Rattle.pool.specs.Slot.{lenOf, noKid, kidPut}
 use Rattle.node_children.specs.Kids.{listOf}
 use Rattle.node_children.specs.Calls.{withKid, leftOf}
 use Rattle.node_children.proofs.Lists.{kids-of}
@@ -20,14 +20,16 @@ use Rattle.nodes.proofs.Heads.{list-says}
 use Rattle.tree.specs.Tree.{every, hit, seamless}
 use Rattle.tree.specs.Kids.{below, fine}
 use Rattle.tree.proofs.Lists.{every-head, every-right}
-use Rattle.edits.specs.Made.{Made}
+use Rattle.edits.specs.Made.{Made, sized}
 use Rattle.became.specs.Became.{usesAll, bytesAll, free, spare, Slotted}
 use Rattle.became.specs.Grown.{kid}
 use Rattle.list_step.specs.Steps.{recount, keeping, parting, adding, onePut, twoPut}
 use Rattle.list_step.proofs.Rules.{list-len, recount-length, children-few, recounted-is}
-use Rattle.list_step.proofs.Stored.{one-by, two-by, adding-one, adding-two}
+use Rattle.list_step.proofs.Stored.{two-by, adding-one, adding-two}
 use Rattle.list_step.proofs.Totals.{child-there}
-use Rattle.list_step.proofs.Family.{Family}
+use Rattle.list_step.proofs.Family.{Family, countsOf, narrow-enough, family-told, family-fits, laid-made}
+use Rattle.list_step.proofs.Laid.{Laid, made-more}
+use Rattle.list_step.proofs.One.{one-is, one-laid}
 use Rattle.list_step.proofs.Laws.{Makes, Families, keep-makes, part-makes}
 
 -- children of height g for the list in slot p of a memory of n slots
@@ -97,8 +99,16 @@ module _ (m : List ℕ) (n g p i : ℕ) (new : TextInfo) (at : i < lenOf m p) wh
   -- THEOREM: a child with other counts
   pub put-one-makes : Ready m n g p anew → MakesOf (onePut m p i new) m n g p anew
   put-one-makes r =
-      makes-as (onePut m p i new) (keeping m p (listOf anew)) m n g p anew (one-by m p i new (value (listOf anew)) (recounted-is m p i new (r .list) at))
-      (keep-makes m n g p anew (one-family m n g p anew r (omega (arith, so-many (r .list), list-says m p (r .list) .2))))
+      let f = one-family m n g p anew r (omega (arith, so-many (r .list), list-says m p (r .list) .2)) in
+      let later = kidPut m p i (kid (getD ks i noKid .slot) new) in
+      let made = sized 4 (length anew) (countsOf anew) in
+      let w : Laid m later p anew = one-laid m p i new (r .list) at (family-fits m n g p anew f) in
+      record {
+        made = made;
+        later = later;
+        accepted = one-is m p i new (r .list) at (narrow-enough m n g p anew f);
+        is = made-more m later n 0 1 (λ x. hit p x + usesAll m g anew x) (suc g) p (bytesAll m g anew) made (laid-made m later n g p anew f w (countsOf anew) (family-told m n g p anew f)) (omega arith);
+      }
 
   -- THEOREM: a child that became two
   module _ (right : ℕ) (other : TextInfo) where

@@ -2,11 +2,12 @@
 use mathlib.Core.Path.{_≡_, refl, sym, ap, subst, _∙_}
 use mathlib.Core.Bool.{Bool, true, false, not}
 use mathlib.Core.List.{List, [], _∷_, _++_}
-use Prim.Native.Nat.{ℕ, _+_, _≤_, _<_}
+use Prim.Native.Nat.{ℕ, _+_, _-_, _≤_, _<_}
 use native.Mathlib.Omega.{arith}
+use native.Mathlib.Numerals.{add-one}
 use lib.Dec.{leb}
-use lib.ListN.{length, take, drop, getD, length-append, length-drop}
-use lib.Seq.{length-take-le, take-at, drop-at}
+use lib.ListN.{length, take, drop, set, getD, replicate, length-append, length-drop}
+use lib.Seq.{length-take-le, getD-take, set-append-left, set-split}
 use borrow.Author.Tests.{le-leb, lt-leb, leb-false, not-false}
 use Rattle.plain.specs.Outcome.{Outcome, Outcome.value, Outcome.refused, kept, mapped}
 use Rattle.plain.proofs.Outcome.{rule-applies, rule-passed, one-applies, one-passed, accepted, all-accepted}
@@ -22,11 +23,8 @@ use Rattle.pool.specs.Calls.{outside}
 use Rattle.pool.proofs.Kids.{entries-length}
 use Rattle.node_children.specs.declared.NodeChildren.{NodeChildren}
 use Rattle.node_children.specs.declared.Listed.{Listed}
-use Rattle.node_children.specs.declared.Taken.{Taken}
-use Rattle.node_children.specs.Kids.{kids, listOf, kidOf, Listing, Taking}
-use Rattle.node_children.specs.Calls.{withKid, without, removed, inserted}
+use Rattle.node_children.specs.Kids.{kids, listOf, Listing}
 use Rattle.node_children.proofs.Lists.{is-kids, clean-length}
-use Rattle.node_children.proofs.Rules.{removed-done, inserted-done}
 use Rattle.nodes.specs.Node.{isList, childrenOf}
 use Rattle.nodes.specs.Calls.{loaded}
 use Rattle.nodes.proofs.Heads.{not-outside, list-says}
@@ -55,11 +53,6 @@ module _ (ks : List Kid) (i : ℕ) (h : i < length ks) where
   front : length (take i ks) ≡ i
   front = length-take-le i ks (omega arith)
 
-  put-back : (k : Kid) → withKid i k (without i ks) ≡ take i ks ++ (k ∷ drop (i + 1) ks)
-  put-back k =
-      ap (λ (l : List Kid). l ++ (k ∷ drop i (without i ks))) (take-at (take i ks) (drop (i + 1) ks) i front)
-      ∙ ap (λ (l : List Kid). take i ks ++ (k ∷ l)) (drop-at (take i ks) (drop (i + 1) ks) i front)
-
   pub recount-length : (info : TextInfo) → length (recount i info ks) ≡ length ks
   recount-length info = length-append (take i ks) (kid (getD ks i noKid .slot) info ∷ drop (i + 1) ks) ∙ omega (arith, front, length-drop (i + 1) ks)
 
@@ -67,24 +60,22 @@ pub list-len : (ks : List Kid) → listOf ks .len ≡ length ks
 unfolding listOf
 list-len ks = refl
 
-without-length : (ks : List Kid) (i : ℕ) → i < length ks → length (without i ks) + 1 ≡ length ks
-without-length ks i h = omega (arith, length-append (take i ks) (drop (i + 1) ks), length-take-le i ks (omega arith), length-drop (i + 1) ks)
-
-pub recount-is : (c : NodeChildren) (i : ℕ) (info : TextInfo) (t : Taken) (r : Listed) → i < c .len → c .len ≤ 16 → c ≡ listOf (kids c) → Taking (removed c i) c t
-    → Listing (inserted (t .list) i (kid (t .kid .slot) info)) (t .list) r → r .list ≡ listOf (recount i info (kids c))
-recount-is c i info t r h l e w v =
+pub recount-is : (c : NodeChildren) (i : ℕ) (info : TextInfo) → i < c .len → c ≡ listOf (kids c)
+    → _≡_ {A = NodeChildren} (record { len = c .len; arr = set (c .arr) i (kid (getD (c .arr) i noKid .slot) info) }) (listOf (recount i info (kids c)))
+unfolding listOf
+recount-is c i info h e =
     let ks = kids c in
     let n : length ks ≡ c .len = clean-length c e in
-    let o = removed-done c i (omega arith) h l in
-    let kid-is : t .kid ≡ getD ks i noKid = w .kid ∙ ap (λ (x : Outcome (Kid × NodeChildren)). kidOf (mapped (λ y. y .0) x)) o in
-    let list-is : t .list ≡ listOf (without i ks) = w .list ∙ ap (λ (x : Outcome (Kid × NodeChildren)). kept c (mapped (λ y. y .1) x)) o in
-    let len-is : t .list .len ≡ length (without i ks) = ap (λ (x : NodeChildren). x .len) list-is ∙ list-len (without i ks) in
-    let y = without-length ks i (omega arith) in
-    v .list
-    ∙ ap (kept (t .list)) (inserted-done (t .list) i (kid (t .kid .slot) info) (omega arith) (omega arith))
-    ∙ ap (λ (x : List Kid). listOf (withKid i (kid (t .kid .slot) info) x)) (is-kids (t .list) (without i ks) list-is)
-    ∙ ap listOf (put-back ks i (omega arith) (kid (t .kid .slot) info))
-    ∙ ap (λ (x : Kid). listOf (take i ks ++ (kid (x .slot) info ∷ drop (i + 1) ks))) kid-is
+    let k = kid (getD (c .arr) i noKid .slot) info in
+    let back = replicate (16 - length ks) noKid in
+    let l : length (recount i info ks) ≡ length ks = recount-length ks i (omega arith) info in
+    let new : set ks i k ≡ recount i info ks =
+    set-split ks i k (omega arith)
+    ∙ ap (λ (j : ℕ). take i ks ++ (k ∷ drop j ks)) (sym (add-one i))
+    ∙ ap (λ (x : Kid). take i ks ++ (kid (x .slot) info ∷ drop (i + 1) ks)) (sym (getD-take (c .len) (c .arr) i noKid h)) in
+    let all : set (c .arr) i k ≡ recount i info ks ++ back =
+    ap (λ (x : NodeChildren). set (x .arr) i k) e ∙ set-append-left ks back i k (omega arith) ∙ ap (λ (x : List Kid). x ++ back) new in
+    rw (all, l) (ap (λ (j : ℕ). record { len = j; arr = recount i info ks ++ back }) (sym n))
 
 -- ── of the list in a slot ──
 

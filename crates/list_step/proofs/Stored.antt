@@ -43,7 +43,7 @@ use Rattle.head_write.proofs.Written.{free-around}
 use Rattle.note_head.specs.Head.{freeOf}
 use Rattle.slots.specs.Slots.{noFree, takenMemory, taken, Took}
 use Rattle.slots.proofs.Rules.{taken-some}
-use Rattle.list_step.specs.Steps.{andThen, recounted, keeping, laying, parting, adding, onePut, twoPut}
+use Rattle.list_step.specs.Steps.{andThen, recounted, keeping, laying, parting, adding, twoPut}
 use Rattle.list_step.proofs.Rules.{step-done, step-refused, step-as, list-len}
 
 -- ── counts ──
@@ -248,10 +248,6 @@ module _ (m : List ℕ) (p j : ℕ) (k : Kid) (c : NodeChildren) where
 -- ── the calls ──
 
 module _ (m : List ℕ) (p i : ℕ) (new : TextInfo) where
-  pub one-by : (o : Outcome NodeChildren) → recounted m p i new ≡ o → onePut m p i new ≡ andThen o (keeping m p)
-  unfolding onePut
-  one-by o e = ap (λ (x : Outcome NodeChildren). andThen x (keeping m p)) e
-
   module _ (right : ℕ) (other : TextInfo) where
     pub two-past : 4294967295 < right → twoPut m p i new right other ≡ refused 2
     unfolding twoPut

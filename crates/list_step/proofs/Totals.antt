@@ -32,7 +32,7 @@ use Rattle.tree.proofs.Sound.{child-sound, join-valid, valid-below, filled-belo
 
 -- ── counts told ──
 
-tells-is : (i : TextInfo) (s : TextSum) → tells i s ≡ true → (i .bytes ≡ s .bytes) × (i .chars ≡ s .chars) × (i .«utf16_surrogates» ≡ s .«utf16_surrogates») × (i .«line_breaks» ≡ s .«line_breaks»)
+pub tells-is : (i : TextInfo) (s : TextSum) → tells i s ≡ true → (i .bytes ≡ s .bytes) × (i .chars ≡ s .chars) × (i .«utf16_surrogates» ≡ s .«utf16_surrogates») × (i .«line_breaks» ≡ s .«line_breaks»)
 tells-is i s e =
     let a = eqb (i .bytes) (s .bytes) in
     let b = eqb (i .chars) (s .chars) in
@@ -125,20 +125,28 @@ module _ (m : List ℕ) (h : ℕ) where
   total-is ks e z =
       totals zeros ks e z ∙ sum-is (plusSum zeros (sumOf (decode (text ks)))) (sumOf (decode (text ks))) (omega arith) (omega arith) (omega arith) (omega arith)
 
+  -- the same of one child, whatever its size
+  pub one-total : (k : Kid) → toldRight m h k ≡ true → totalOf (k ∷ []) ≡ sumOf (decode (below m h k))
+  unfolding sumFrom toldRight
+  one-total k e =
+      let i = tells-is (k .info) (sumOf (decode (below m h k))) e in
+      sum-is (plusInfo zeros (k .info)) (sumOf (decode (below m h k))) (omega (arith, i .0)) (omega (arith, i .1)) (omega (arith, i .2)) (omega (arith, i .3))
+
   -- ── 32 bits ──
 
-  node-there : (least j s : ℕ) → sound m least j s ≡ true → slotStart s + 640 ≤ length m
+  -- a sound node's slot lies in the memory, and so does a child's
+  pub node-there : (least j s : ℕ) → sound m least j s ≡ true → slotStart s + 640 ≤ length m
   node-there least zero s e = leaf-says m s (leaf-sound m least s e .leaf) .0
   node-there least (suc j) s e = list-says m s (list-sound m least j s e .list) .0
 
-  -- a child's slot lies in the memory
   pub child-there : (k : Kid) → fine m h k ≡ true → slotStart (k .slot) + 640 ≤ length m
   child-there k e = node-there (leastAt h) h (k .slot) (child-sound m h k e)
 
-  kid-fits : (k : Kid) → fine m h k ≡ true → length (below m h k) < 4294967296 → k .slot < 4294967296 → Fits k
-  kid-fits k e l s =
-      let i = tells-is (k .info) (sumOf (decode (below m h k))) (told k e) in
-      let t = counts-small (below m h k) (valid k e) in
+  pub kid-fits : (k : Kid) → toldRight m h k ≡ true → validUtf8 (below m h k) ≡ true → length (below m h k) < 4294967296 → k .slot < 4294967296 → Fits k
+  unfolding toldRight
+  kid-fits k e v l s =
+      let i = tells-is (k .info) (sumOf (decode (below m h k))) e in
+      let t = counts-small (below m h k) v in
       record { slot = s; bytes = omega (arith, i .0, t .b); chars = omega (arith, i .1, t .c); surrogates = omega (arith, i .2, t .u); breaks = omega (arith, i .3, t .l) }
 
   pub all-fit : (ks : List Kid) → every (fine m h) ks ≡ true → length (text ks) < 4294967296 → length m < slotStart 4294967296 + 640 → (i : ℕ) → i < length ks → Fits (getD ks i noKid)
@@ -148,4 +156,4 @@ module _ (m : List ℕ) (h : ℕ) where
       let a = below m h k in
       let b = text (drop (suc i) ks) in
       let z = ap length (join-at (below m h) ks i noKid q) ∙ length-append (text (take i ks)) (a ++ b) in
-      kid-fits k f (omega (arith, z, length-append a b)) (omega (arith, child-there k f))
+      kid-fits k (and-right (sound m (leastAt h) h (k .slot)) (toldRight m h k) f) (valid k f) (omega (arith, z, length-append a b)) (omega (arith, child-there k f))

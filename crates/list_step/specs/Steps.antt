@@ -8,7 +8,7 @@ use lib.ListN.{take, drop, getD}
 use Rattle.plain.specs.Outcome.{Outcome, Outcome.value, Outcome.refused, ruled, past}
 use Rattle.text_info.specs.declared.TextInfo.{TextInfo}
 use Rattle.pool.specs.declared.Kid.{Kid}
-use Rattle.pool.specs.Slot.{lenOf, noKid}
+use Rattle.pool.specs.Slot.{lenOf, noKid, kidPut}
 use Rattle.node_children.specs.declared.NodeChildren.{NodeChildren}
 use Rattle.node_children.specs.Kids.{kids, listOf}
 use Rattle.node_children.specs.Calls.{withKid, halves}
@@ -61,10 +61,12 @@ adding m p j k c =
 
 -- ── the calls ──
 
--- child i of the list in slot p has other counts
+-- child i of the list in slot p has other counts: its entry alone is written
 unfoldable pub onePut : List ℕ → ℕ → ℕ → TextInfo → Outcome (Made × List ℕ)
-unfolding recounted keeping
-onePut m p i info = andThen (recounted m p i info) (keeping m p)
+unfolding ruled isList
+onePut m p i info =
+    ruled ((2, not (isList m p)) ∷ (3, leb (lenOf m p) i) ∷ (2, tooWide (totalOf (recount i info (childrenOf m p)))) ∷ [])
+    (sized 4 (lenOf m p) (narrowed (totalOf (recount i info (childrenOf m p)))), kidPut m p i (kid (getD (childrenOf m p) i noKid .slot) info))
 
 -- and one more behind it. 2 also for a slot that 32 bits do not name
 unfoldable pub twoPut : List ℕ → ℕ → ℕ → TextInfo → ℕ → TextInfo → Outcome (Made × List ℕ)

@@ -10,18 +10,29 @@ use node_children::MAX_LEN;
 use node_children::NodeChildren;
 use nodes::list_info;
 use nodes::load;
+use nodes::narrow;
 use nodes::store;
+use pool::Entry;
+use pool::Head;
 use pool::Kid;
+use pool::head_of;
+use pool::kid_of;
+use pool::set_kid;
 use slots::take_slot;
 use text_info::Info;
 use text_info::TextInfo;
+use text_info::TextSum;
 ghost use mathlib.Core.Path.{_≡_};
-ghost use mathlib.Core.Bool.{false};
+ghost use mathlib.Core.Bool.{true, false};
 ghost use mathlib.Core.List.{[]};
 ghost use Prim.Native.Nat.{_<_, _≤_};
+ghost use lib.ListN.{getD};
+ghost use Rattle.pool.specs.Slot.{lenOf, kidPut, noKid};
 ghost use Rattle.pool.specs.Calls.{outside};
 ghost use Rattle.node_children.specs.Kids.{kids, listOf, Listing};
+ghost use Rattle.nodes.specs.Node.{isList, childrenOf, totalOf};
 ghost use Rattle.edits.specs.Made.{Stepped};
+ghost use Rattle.became.specs.Grown.{kid};
 ghost use Rattle.list_step.specs.Steps.{recount, recounted, keeping, laying, parting, adding, onePut, twoPut};
 
 // The fewest children that a list should have which is not the root.
@@ -35,13 +46,13 @@ fn recount(list: NodeChildren, idx: usize, info: TextInfo) -> NodeChildren
     requires { ⌜ (idx < list .len) × (list .len ≤ 16) × (list ≡ listOf (kids list)) ⌝ }
     ensures { λ r. ⌜ r ≡ listOf (recount idx info (kids list)) ⌝ }
 {
-    let out = list.remove(idx);
-    let kid = out.kid;
-    let new = Kid {
+    let kid = list.arr[idx];
+    let mut new = list;
+    new.arr[idx] = Kid {
         slot: kid.slot,
         info: info,
     };
-    out.list.insert(idx, new).list
+    new
 }
 
 // The children of the list in a slot, the one at an index with other counts.
@@ -132,15 +143,72 @@ fn add(m: &mut [u8], slot: usize, list: NodeChildren, at: usize, item: Kid) -> E
     part(m, slot, two.left, two.right)
 }
 
+// The counts of the i-th child of the list in a slot, where the one at an index has these.
+fn counts_at(m: &[u8], slot: usize, i: usize, idx: usize, new: TextInfo) -> TextInfo
+    requires { ⌜ (isList (now m) slot ≡ true) × (idx < lenOf (now m) slot) × (i < lenOf (now m) slot) ⌝ }
+    ensures { λ r. ⌜ r ≡ getD (recount idx new (childrenOf (now (m .entry)) slot)) i noKid .info ⌝ }
+{
+    if i == idx {
+        return new;
+    }
+    let Entry::Is(kid) = kid_of(m, slot, i) else {
+        return new;
+    };
+    kid.info
+}
+
+// The counts of its n children added up where they lie.
+fn total_with(m: &[u8], slot: usize, n: usize, idx: usize, new: TextInfo) -> TextSum
+    requires { ⌜ (isList (now m) slot ≡ true) × (lenOf (now m) slot ≡ n) × (idx < n) ⌝ }
+    ensures { λ r. ⌜ r ≡ totalOf (recount idx new (childrenOf (now (m .entry)) slot)) ⌝ }
+{
+    let mut all = TextSum::new();
+    let mut i = 0;
+    while i < n {
+        all = all.add(counts_at(m, slot, i, idx, new));
+        i += 1;
+    }
+    all
+}
+
+// Writes the entry of the child at an index: its slot, and these counts.
+fn put_counts(m: &mut [u8], slot: usize, idx: usize, info: TextInfo)
+    requires { ⌜ (isList (now m) slot ≡ true) × (idx < lenOf (now m) slot) ⌝ }
+    ensures { λ _. ⌜ now (m .exit) ≡ kidPut (now (m .entry)) slot idx (kid (getD (childrenOf (now (m .entry)) slot) idx noKid .slot) info) ⌝ }
+{
+    let Entry::Is(old) = kid_of(m, slot, idx) else {
+        return;
+    };
+    set_kid(
+        m,
+        slot,
+        idx,
+        Kid {
+            slot: old.slot,
+            info: info,
+        },
+    );
+}
+
 // The child at an index has these counts now.
 pub fn put_one(m: &mut [u8], slot: usize, idx: usize, info: TextInfo) -> Edit
     ensures { λ r. ⌜ Stepped (onePut (now (m .entry)) slot idx info) (now (m .entry)) r (now (m .exit)) ⌝ }
 {
-    let family = recounted(m, slot, idx, info);
-    let may = family.verdict;
-    match may {
-        Verdict::Refused(r) => Edit::Refused(r),
-        Verdict::Accepted => keep(m, slot, family.list),
+    let Head::List(n) = head_of(m, slot) else {
+        return Edit::Refused(Refusal::Memory);
+    };
+    if n <= idx {
+        return Edit::Refused(Refusal::Place);
+    }
+    match narrow(total_with(m, slot, n, idx, info)) {
+        Info::Refused(r) => Edit::Refused(r),
+        Info::Is(all) => {
+            put_counts(m, slot, idx, info);
+            if n < MIN_LEN {
+                return Edit::Small(all);
+            }
+            Edit::Same(all)
+        }
     }
 }
 

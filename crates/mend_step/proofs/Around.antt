@@ -15,18 +15,17 @@ use Rattle.pool.specs.Slot.{lenOf}
 use Rattle.nodes.specs.Node.{isList, childrenOf}
 use Rattle.tree.specs.Tree.{every, hit, uses, seamless, sumOf, tells}
 use Rattle.tree.specs.Kids.{below, fine}
-use Rattle.tree.proofs.Lists.{join-append, join-filled, every-head, every-append}
+use Rattle.tree.proofs.Lists.{join-filled, every-head}
 use Rattle.tree.proofs.Seams.{lf-append}
-use Rattle.tree.proofs.Frame.{KeptAll}
 use Rattle.merge.specs.Join.{AllFit}
-use Rattle.edits.specs.Made.{Made, Made.same, Made.split, Made.small, sized}
+use Rattle.edits.specs.Made.{sized}
 use Rattle.became.specs.Became.{usesAll, bytesAll, free, Became}
 use Rattle.became.specs.Grown.{Grown, MadeIs}
-use Rattle.became.proofs.Rules.{became-as, same-length, beside, among, then}
 use Rattle.list_step.proofs.Totals.{filled}
-use Rattle.list_step.proofs.Family.{Family}
-use Rattle.mend_step.proofs.Laid.{Laid, laid-made}
-use Rattle.mend_step.proofs.Pairs.{Pair, Merges, Shares, seam-append}
+use Rattle.list_step.proofs.Laid.{Laid}
+use Rattle.list_step.proofs.Family.{Family, laid-made}
+use Rattle.mend_step.proofs.Pairs.{Pair, Merges, Shares}
+use Rattle.mend_step.proofs.Among.{Amid, became-all, fine-all, seams-all, made-then, made-as}
 use Rattle.mend_step.proofs.JoinedLists.{lists-merge, lists-share}
 use Rattle.mend_step.proofs.JoinedLeaves.{leaves-merge, leaves-share}
 
@@ -40,20 +39,6 @@ pub data Joint (m : List ℕ) (n g a b : ℕ) : Type 0 where
 pub joint : (m : List ℕ) (n g a b : ℕ) → Pair m n g a b → Joint m n g a b
 joint m n zero a b p = cut (lenOf m a + lenOf m b) 513 (λ l. merges _ (leaves-merge m n a b p (omega arith))) (λ l. shares _ (leaves-share m n a b p l))
 joint m n (suc h) a b p = cut (lenOf m a + lenOf m b) 17 (λ l. merges _ (lists-merge m n h a b p (omega arith))) (λ l. shares _ (lists-share m n h a b p l))
-
--- ── one edit behind another ──
-
-module _ (m a later : List ℕ) (n : ℕ) (u k : ℕ → ℕ) (h : ℕ) (mid : List Kid) (t : List ℕ) (w : ℕ → ℕ) (g s : ℕ) (v : List ℕ) (p : Became m a n 0 u h mid t)
-    (q : (x : ℕ) → w x ≡ k x + usesAll a h mid x) where
-  made-then : (b : Made) → MadeIs a later n 0 w g s v b → MadeIs m later n 0 (λ x. k x + u x) g s v b
-  made-then (same i) r = record { became = then m a later n 0 0 u k h mid t w g _ v p q (r .became); each = r .each; seams = r .seams }
-  made-then (split i c j) r = record { became = then m a later n 0 0 u k h mid t w g _ v p q (r .became); each = r .each; seams = r .seams }
-  made-then (small i) r = record { became = then m a later n 0 0 u k h mid t w g _ v p q (r .became); good = r .good; told = r .told; few = r .few }
-
-pub made-as : (m l : List ℕ) (n d : ℕ) (u w : ℕ → ℕ) (h s : ℕ) (t v : List ℕ) (b : Made) → MadeIs m l n d u h s t b → ((x : ℕ) → u x ≡ w x) → t ≡ v → MadeIs m l n d w h s v b
-made-as m l n d u w h s t v (same i) r e q = record { became = became-as m l n d u h _ t (r .became) w v e q; each = r .each; seams = r .seams }
-made-as m l n d u w h s t v (split i c j) r e q = record { became = became-as m l n d u h _ t (r .became) w v e q; each = r .each; seams = r .seams }
-made-as m l n d u w h s t v (small i) r e q = record { became = became-as m l n d u h _ t (r .became) w v e q; good = r .good; told = r .told; few = r .few }
 
 -- ── among siblings ──
 
@@ -93,49 +78,24 @@ module _ (m : List ℕ) (n g p : ℕ) (pre : List Kid) (x y : Kid) (post : List 
   abbrev pub ks : List Kid
   ks = pre ++ (outs ++ post)
 
-  apart : (z : ℕ) → usesAll m g pre z + u z + usesAll m g post z + free m n z ≤ 1
-  apart z = omega (arith, r .once z, sub z)
-
-  became-all : Became m l n 0 (λ z. usesAll m g pre z + (u z + usesAll m g post z)) g ks (all m g pre x y post)
-  became-all = among m l n 0 u g outs (two m g x y) (w .became) (r .pair .slotted) pre post apart
-
-  abbrev long : length l ≡ length m
-  long = same-length m l n 0 u g outs (two m g x y) (w .became) (r .pair .slotted)
-
-  kept-pre : KeptAll m l long g pre
-  kept-pre = beside m l n 0 u g outs (two m g x y) (w .became) (r .pair .slotted) g pre (λ z. omega (arith, apart z))
-
-  kept-post : KeptAll m l long g post
-  kept-post = beside m l n 0 u g outs (two m g x y) (w .became) (r .pair .slotted) g post (λ z. omega (arith, apart z))
-
-  fine-pre : every (fine l g) pre ≡ true
-  fine-pre = kept-pre .fine-too ∙ r .before
-
-  fine-post : every (fine l g) post ≡ true
-  fine-post = kept-post .fine-too ∙ r .behind
-
-  fine-behind : every (fine l g) (outs ++ post) ≡ true
-  fine-behind = every-append (fine l g) outs post (w .each) fine-post
-
-  behind-text : bytesAll l g (outs ++ post) ≡ two m g x y ++ bytesAll m g post
-  behind-text =
-      join-append (below l g) outs post ∙ ap (λ (t : List ℕ). t ++ bytesAll l g post) (w .became .reads) ∙ ap (λ (t : List ℕ). two m g x y ++ t) (kept-post .bytes)
-
   some-text : 1 ≤ length (two m g x y)
   some-text = omega (arith, join-filled (below l g) k rest (filled l g k (every-head (fine l g) k rest (w .each))), ap length (w .became .reads))
 
-  seams-behind : seamless (map (below l g) (outs ++ post)) ≡ true
-  seams-behind =
-      seam-append (below l g) (fine l g) (filled l g) outs post (w .each) fine-post (w .seams) (ap seamless (kept-post .texts) ∙ r .seams-behind)
-      (ap (λ (t : List ℕ). crLast t && lfFirst (bytesAll l g post)) (w .became .reads) ∙ ap (λ (t : List ℕ). crLast (two m g x y) && lfFirst t) (kept-post .bytes) ∙ r .seam-right)
+  amid : Amid m n g u pre post (two m g x y)
+  amid =
+      record {
+        slotted = r .pair .slotted;
+        apart = λ z. omega (arith, r .once z, sub z);
+        before = r .before;
+        behind = r .behind;
+        seams-before = r .seams-before;
+        seams-behind = r .seams-behind;
+        seam-left = ap (λ (t : Bool). crLast (bytesAll m g pre) && t) (lf-append (two m g x y) (bytesAll m g post) some-text) ∙ r .seam-left;
+        seam-right = r .seam-right;
+      }
 
-  seams-all : seamless (map (below l g) ks) ≡ true
-  seams-all =
-      seam-append (below l g) (fine l g) (filled l g) pre (outs ++ post) fine-pre fine-behind (ap seamless (kept-pre .texts) ∙ r .seams-before) seams-behind
-      (ap (λ (t : List ℕ). crLast t && lfFirst (bytesAll l g (outs ++ post))) (kept-pre .bytes)
-      ∙ ap (λ (t : List ℕ). crLast (bytesAll m g pre) && lfFirst t) behind-text
-      ∙ ap (λ (t : Bool). crLast (bytesAll m g pre) && t) (lf-append (two m g x y) (bytesAll m g post) some-text)
-      ∙ r .seam-left)
+  became-kids : Became m l n 0 (λ z. usesAll m g pre z + (u z + usesAll m g post z)) g ks (all m g pre x y post)
+  became-kids = became-all m l n 0 g u pre post outs (two m g x y) amid (w .became)
 
   -- THEOREM: they are a family
   pub family : Family l n g p ks
@@ -145,10 +105,10 @@ module _ (m : List ℕ) (n g p : ℕ) (pre : List Kid) (x y : Kid) (post : List 
         slotted = w .became .slotted;
         there = r .there;
         most = most;
-        each = every-append (fine l g) pre (outs ++ post) fine-pre fine-behind;
-        seams = seams-all;
-        once = λ z. omega (arith, r .once z, sub z, became-all .conserve z);
-        small = omega (arith, r .short, ap length (became-all .reads));
+        each = fine-all m l n 0 g u pre post outs (two m g x y) amid w;
+        seams = seams-all m l n 0 g u pre post outs (two m g x y) amid w;
+        once = λ z. omega (arith, r .once z, sub z, became-kids .conserve z);
+        small = omega (arith, r .short, ap length (became-kids .reads));
       }
 
   abbrev pub used : ℕ → ℕ
@@ -157,8 +117,8 @@ module _ (m : List ℕ) (n g p : ℕ) (pre : List Kid) (x y : Kid) (post : List 
   -- THEOREM: laid in the list they are what became of it
   pub laid-all : (later : List ℕ) → Laid l later p ks → MadeIs m later n 0 used (suc g) p (all m g pre x y post) (sized 4 (length ks) info)
   laid-all later d =
-      let made = laid-made l later n g p ks family d info (ap (λ (t : List ℕ). tells info (sumOf (decode t))) (became-all .reads) ∙ r .told) in
+      let made = laid-made l later n g p ks family d info (ap (λ (t : List ℕ). tells info (sumOf (decode t))) (became-kids .reads) ∙ r .told) in
       made-as m later n 0 used used (suc g) p (bytesAll l g ks) (all m g pre x y post) (sized 4 (length ks) info)
-      (made-then m l later n (λ z. usesAll m g pre z + (u z + usesAll m g post z)) (hit p) g ks (all m g pre x y post) (λ z. hit p z + usesAll l g ks z) (suc g) p (bytesAll l g ks) became-all (λ z. refl)
+      (made-then m l later n 0 0 (λ z. usesAll m g pre z + (u z + usesAll m g post z)) (hit p) g ks (all m g pre x y post) (λ z. hit p z + usesAll l g ks z) (suc g) p (bytesAll l g ks) became-kids (λ z. refl)
       (sized 4 (length ks) info) made)
-      (λ z. refl) (became-all .reads)
+      (λ z. refl) (became-kids .reads)

@@ -32,9 +32,9 @@ use Rattle.became.specs.Became.{usesAll, bytesAll, free}
 use Rattle.became.specs.Grown.{Grown, kid}
 use Rattle.became.proofs.Rules.{same-length, beside}
 use Rattle.list_step.proofs.Totals.{filled}
-use Rattle.list_step.proofs.Family.{Family, countsOf as countsIn, narrow-enough, is-became}
+use Rattle.list_step.proofs.Family.{Family, countsOf as countsIn, narrow-enough, put-laid, is-became}
 use Rattle.list_step.proofs.Laws.{fine-list}
-use Rattle.mend_step.proofs.Laid.{Laid, put-laid}
+use Rattle.list_step.proofs.Laid.{Laid}
 use Rattle.mend_step.proofs.Pairs.{Pair, Merges, Shares, slots-apart, seam-one, seam-append, seam-between}
 use Rattle.mend_step.proofs.Beside.{grown-as, both-grown}
 

@@ -1,7 +1,7 @@
 pub mod Rules
-pub mod Laid
 pub mod Freed
 pub mod Pairs
+pub mod Among
 pub mod Beside
 pub mod JoinedLists
 pub mod JoinedLeaves

@@ -36,12 +36,13 @@ use Rattle.list_step.proofs.Totals.{all-fit}
 use Rattle.list_step.proofs.Family.{Family}
 use Rattle.mend_step.specs.Mended.{closed, mended}
 use Rattle.mend_step.proofs.Rules.{paired-is, mended-by, join-value}
-use Rattle.mend_step.proofs.Laid.{Laid}
+use Rattle.list_step.proofs.Laid.{Laid}
 use Rattle.mend_step.proofs.Freed.{grown-freed, shrunk-freed}
 use Rattle.mend_step.proofs.Pairs.{Merges, Shares, uses-self, slots-apart}
 use Rattle.mend_step.proofs.Settled.{merged-laid, shared-laid}
 use Rattle.mend_step.proofs.Asked.{sound-counted, not-mixed, merging-is}
-use Rattle.mend_step.proofs.Around.{Joint, Joint.merges, Joint.shares, joint, made-as, all, usesBoth, two, Lame, family, laid-all}
+use Rattle.mend_step.proofs.Among.{made-as}
+use Rattle.mend_step.proofs.Around.{Joint, Joint.merges, Joint.shares, joint, all, usesBoth, two, Lame, family, laid-all}
 
 -- the step is accepted, and made this of the list in slot p
 pub record Mends (m : List ℕ) (n g p i : ℕ) (pre : List Kid) (x y : Kid) (post : List Kid) (info : TextInfo) : Type 0 where

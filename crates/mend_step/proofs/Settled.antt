@@ -4,25 +4,21 @@ use mathlib.Core.Bool.{true}
 use mathlib.Core.List.{List, [], _∷_, _++_}
 use Prim.Native.Nat.{ℕ, _+_, _≤_, _<_}
 use native.Mathlib.Omega.{arith}
-use lib.ListN.{length, take, drop, getD, set, length-set, length-append, take-append-drop}
-use lib.Seq.{take-at, drop-at, set-at, getD-at, set-append-left, append-snoc}
+use lib.ListN.{length, take, drop, getD, set, length-append}
+use lib.Seq.{take-at, drop-at, set-at, getD-at, append-snoc}
 use Rattle.pool.specs.declared.Kid.{Kid}
-use Rattle.pool.specs.Slot.{slotStart, lenOf, regionOf, entries, noKid, Fits, kidPut}
-use Rattle.pool.proofs.Slots.{head-same, kid-entries, kid-head, kid-others, kid-front, kid-size}
+use Rattle.pool.specs.Slot.{slotStart, lenOf, noKid, Fits, kidPut}
 use Rattle.node_children.specs.Kids.{listOf}
 use Rattle.node_children.specs.Calls.{without}
-use Rattle.node_children.proofs.Lists.{kids-of}
-use Rattle.nodes.specs.Node.{isList, childrenOf, countsOf, listPut, Fitting}
-use Rattle.nodes.proofs.Heads.{list-says, list-is}
-use Rattle.nodes.proofs.Put.{list-size, list-put, list-children, list-others, list-front, same}
-use Rattle.nodes.proofs.Fitted.{list-fits}
+use Rattle.nodes.specs.Node.{isList, childrenOf, countsOf, listPut}
+use Rattle.nodes.proofs.Heads.{list-says}
+use Rattle.nodes.proofs.Put.{same}
 use Rattle.tree.proofs.Sound.{children-length}
 use Rattle.child_info.specs.Kin.{slotIn}
 use Rattle.child_info.specs.Renewed.{slotAt, renewed}
 use Rattle.child_info.proofs.Found.{slot-at}
 use Rattle.became.specs.Grown.{kid}
-use Rattle.list_step.proofs.Rules.{list-len}
-use Rattle.mend_step.proofs.Laid.{Laid}
+use Rattle.list_step.proofs.Laid.{Laid, list-laid, kid-laid}
 
 -- one write behind another
 pub laid-then : (l k j : List ℕ) (p : ℕ) (c d : List Kid) → Laid l k p c → Laid k j p d → Laid l j p d
@@ -34,41 +30,6 @@ laid-then l k j p c d a b =
       others = λ x q. b .others x q ∙ a .others x q;
       head = b .head ∙ a .head;
     }
-
--- one entry written
-module _ (l : List ℕ) (p i : ℕ) (e : isList l p ≡ true) (h : i < lenOf l p) (k : Kid) (f : Fits k) where
-  there : slotStart p + 640 ≤ length l
-  there = list-says l p e .0
-
-  low : i < 16
-  low = omega (arith, list-says l p e .2)
-
-  abbrev after : List ℕ
-  after = kidPut l p i k
-
-  heads : lenOf after p ≡ lenOf l p
-  heads = head-same after l p (kid-head l p i k there low) .1
-
-  abbrev es : List Kid
-  es = entries (regionOf l p)
-
-  few : length (childrenOf l p) ≡ lenOf l p
-  few = children-length l p e
-
-  kid-laid : Laid l after p (set (childrenOf l p) i k)
-  kid-laid =
-      record {
-        long = kid-size l p i k there low;
-        list = list-is after p (omega (arith, kid-size l p i k there low, there)) (head-same after l p (kid-head l p i k there low) .0 ∙ list-says l p e .1) (omega (arith, heads, list-says l p e .2));
-        children =
-            ap (λ (n : ℕ). take n (entries (regionOf after p))) heads
-            ∙ ap (take (lenOf l p)) (kid-entries l p i k there low f)
-            ∙ ap (λ (x : List Kid). take (lenOf l p) (set x i k)) (sym (take-append-drop (lenOf l p) es))
-            ∙ ap (take (lenOf l p)) (set-append-left (childrenOf l p) (drop (lenOf l p) es) i k (omega (arith, few)))
-            ∙ take-at (set (childrenOf l p) i k) (drop (lenOf l p) es) (lenOf l p) (length-set (childrenOf l p) i k ∙ few);
-        others = kid-others l p i k there low;
-        head = kid-front l p i k there low;
-      }
 
 -- the entry behind `pre` counted anew
 module _ (l : List ℕ) (p i : ℕ) (pre : List Kid) (c : Kid) (post : List Kid) (at : length pre ≡ i) (e : isList l p ≡ true) (is : childrenOf l p ≡ pre ++ (c ∷ post)) where
@@ -120,24 +81,11 @@ module _ (l : List ℕ) (p i : ℕ) (pre : List Kid) (x y : Kid) (post : List Ki
     short-length : length short ≤ 16
     short-length = omega (arith, length-append pre (x ∷ post), length-append pre (x ∷ y ∷ post), ap length is, children-length l p e, list-says l p e .2)
 
-    fitting : Fitting (listOf short .arr)
-    fitting = list-fits short short-length fit
-
-    few-kids : listOf short .len ≤ 16
-    few-kids = omega (arith, list-len short, short-length)
-
     abbrev mid : List ℕ
     mid = listPut l p (listOf short)
 
     mid-laid : Laid l mid p short
-    mid-laid =
-        record {
-          long = list-size l p (listOf short) room few-kids (fitting .sixteen);
-          list = list-put l p (listOf short) room few-kids (fitting .sixteen);
-          children = list-children l p (listOf short) room few-kids (fitting .sixteen) fitting ∙ kids-of short;
-          others = list-others l p (listOf short) room few-kids (fitting .sixteen);
-          head = list-front l p (listOf short) room few-kids (fitting .sixteen);
-        }
+    mid-laid = list-laid l p short room short-length fit
 
     counts-stay : countsOf mid (x .slot) ≡ countsOf l (x .slot)
     counts-stay = same mid l (x .slot) (mid-laid .others (x .slot) off) (mid-laid .long) .counts

@@ -8,7 +8,7 @@ use lib.ListN.{length, take, drop, replicate}
 use Rattle.plain.specs.Chars.{encode}
 use Rattle.plain.specs.Utf8.{validUtf8, decode}
 use Rattle.plain.specs.Count.{lines, lineStart}
-use Rattle.plain.specs.Place.{Measure, Measure.byte, Measure.char, Measure.unit, Measure.line, bytes, units, countAt, countOf, placeOfByte, placeOfUnit}
+use Rattle.plain.specs.Place.{Measure, Measure.byte, Measure.char, Measure.unit, Measure.line, bytes, units, countAt, placeOfByte, placeOfUnit}
 use Rattle.plain.specs.Edit.{putIn}
 use Rattle.plain.specs.Outcome.{Outcome, Rule, ruled, past}
 

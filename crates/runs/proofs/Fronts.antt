@@ -29,8 +29,8 @@ use Rattle.leaf_parts.specs.Parts.{byteIn, fromChar}
 use Rattle.leaf_parts.specs.Front.{FrontChars}
 use Rattle.leaf_parts.proofs.Fronts.{take-min, rest-inner, front-filled, front-empty}
 use Rattle.leaf_parts.proofs.Notes.{note-chars}
+use Rattle.edit_rules.proofs.Rules.{insert-says}
 use Rattle.runs.specs.Runs.{runOf, frontOf, joinedFrom, previewOf}
-use Rattle.runs.proofs.Rules.{insert-says}
 
 -- ── a text with a piece put in ──
 
@@ -150,9 +150,9 @@ module _ (m : List ℕ) (p : ℕ) (piece : List ℕ) (q : ℕ) (t : List ℕ) wh
     where
       go : (o : Outcome (Unit {0})) → ruled rules (tt {0}) ≡ o → (p ≤ length (noteOf m .text)) × (validUtf8 piece ≡ true) × (q ≤ length joined)
       go (value a) f =
-          let s = insert-says m piece p q a f in
+          let s = insert-says (noteOf m) p piece (tt {0}) a f in
           let l = one-accepted 3 (past q (length joined)) (encode (drop q joined)) t (sym (more-passed rules ((3, past q (length joined)) ∷ []) (tt {0}) a (encode (drop q joined)) f) ∙ e) in
-          (s .0, s .1, ltb-false (length joined) q l)
+          (s .here, s .valid, ltb-false (length joined) q l)
       go (refused n) f =
           absurd (let z : refused n ≡ value t = sym (more-refused rules ((3, past q (length joined)) ∷ []) (tt {0}) (encode (drop q joined)) n f) ∙ e in let w : _≡_ {A = ℕ} 0 1 = cc in omega arith)
 

@@ -2,22 +2,19 @@
 // piece; a refused call hands out an empty part, and its companion says why.
 use answer::Refusal;
 use answer::Verdict;
+use edit_rules::insert_refusal;
 use leaf_parts::behind;
 use leaf_parts::byte_in;
-use leaf_parts::bytes_of;
 use leaf_parts::chars_of;
 use leaf_parts::from_char;
 use leaf_parts::own_part;
-use note_head::slots;
 use str_indices::chars;
 ghost use mathlib.Core.Path.{_≡_};
-ghost use mathlib.Core.Bool.{true};
-ghost use Prim.Native.Nat.{_+_, _≤_};
-ghost use Rattle.plain.specs.Outcome.{ruled, mapped, past};
-ghost use Rattle.plain_note.specs.Note.{limit, insertRules, readFrom, previewed};
+ghost use Prim.Native.Nat.{_+_};
+ghost use Rattle.plain.specs.Outcome.{mapped, past};
+ghost use Rattle.plain_note.specs.Note.{readFrom, previewed};
 ghost use Rattle.answer.specs.Answers.{verdict};
-ghost use Rattle.note_head.specs.Head.{nOf};
-ghost use Rattle.memory.specs.Formed.{wellFormed, noteOf, ofNote};
+ghost use Rattle.memory.specs.Formed.{ofNote};
 ghost use Rattle.runs.specs.Runs.{runOf, frontOf, joinedFrom, previewOf};
 
 // The companion of `run`: its refusal, or none.
@@ -43,35 +40,6 @@ pub fn run(m: &[u8], p: usize) -> &[u8]
     from_char(own_part(m), p)
 }
 
-// The bytes that the note may have.
-fn most_bytes(m: &[u8]) -> usize
-    requires { ⌜ 17 ≤ nOf (now m) ⌝ }
-    ensures { λ r. ⌜ r ≡ limit (nOf (now (m .entry))) ⌝ }
-{
-    64 * (slots(m) - 16)
-}
-
-// What refuses the insertion of a piece into a well-formed note.
-fn insert_refusal(m: &[u8], piece: &[u8], p: usize) -> Verdict
-    requires { ⌜ wellFormed (now m) ≡ true ⌝ }
-    ensures { λ r. ⌜ verdict r ≡ ruled (insertRules (noteOf (now (m .entry))) p (now (piece .entry))) tt ⌝ }
-{
-    let end = chars_of(m);
-    if end < p {
-        return Verdict::Refused(Refusal::Place);
-    }
-    if 256 < piece.len() {
-        return Verdict::Refused(Refusal::Piece);
-    }
-    if !utf8::valid(piece) {
-        return Verdict::Refused(Refusal::Text);
-    }
-    if most_bytes(m) < bytes_of(m) + piece.len() {
-        return Verdict::Refused(Refusal::Room);
-    }
-    Verdict::Accepted
-}
-
 // Whether a place is past the end of two texts joined, of so many chars.
 fn past_both(first: usize, second: usize, q: usize) -> bool
     ensures { λ r. ⌜ r ≡ past q (first + second) ⌝ }
@@ -87,9 +55,6 @@ fn past_both(first: usize, second: usize, q: usize) -> bool
 pub fn preview_refusal(m: &[u8], piece: &[u8], p: usize, q: usize) -> Verdict
     ensures { λ r. ⌜ verdict r ≡ mapped (λ t. tt) (ofNote (now (m .entry)) (λ N. previewed N p (now (piece .entry)) q)) ⌝ }
 {
-    if !memory::check(m) {
-        return Verdict::Refused(Refusal::Memory);
-    }
     let first = insert_refusal(m, piece, p);
     let Verdict::Accepted = first else {
         return first;

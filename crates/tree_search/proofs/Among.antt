@@ -2,10 +2,10 @@
 use mathlib.Core.Path.{_≡_, refl, sym, ap, _∙_}
 use mathlib.Core.Bool.{Bool, true, false, not, _&&_, cond}
 use mathlib.Core.List.{List, [], _∷_, _++_, map, append-nil, append-assoc}
-use Prim.Native.Nat.{ℕ, suc, _+_, _-_, _≤_}
+use Prim.Native.Nat.{ℕ, suc, _+_, _-_, _≤_, _<_}
 use native.Mathlib.Nat.{sub-self}
 use native.Mathlib.Omega.{arith}
-use lib.ListN.{getD}
+use lib.ListN.{length, getD, take, drop}
 use borrow.Author.Tests.{not-true}
 use Rattle.plain.specs.Utf8.{validUtf8, decode}
 use Rattle.plain.specs.Count.{crLast, lfFirst}
@@ -80,8 +80,12 @@ module _ (f : Kid → List ℕ) (g : Kid → Bool) (kin : (k : Kid) → g k ≡ 
       pub kid : Kid
       pub after : List ℕ
       pub from : i ≤ r .0
+      pub inside : r .0 - i < length ks
       pub is : getD ks (r .0 - i) noKid ≡ kid
       pub passes : g kid ≡ true
+      -- the texts of the children before it, and of those behind it
+      pub before-is : before ≡ joinOver f (take (r .0 - i) ks)
+      pub after-is : after ≡ joinOver f (drop (suc (r .0 - i)) ks)
       pub whole : joinOver f ks ≡ before ++ (f kid ++ after)
       pub valid-before : validUtf8 before ≡ true
       pub valid-after : validUtf8 after ≡ true
@@ -102,8 +106,11 @@ module _ (f : Kid → List ℕ) (g : Kid → Bool) (kin : (k : Kid) → g k ≡ 
           kid = k;
           after = joinOver f ks;
           from = omega arith;
+          inside = omega arith;
           is = ap (λ (n : ℕ). getD (k ∷ ks) n noKid) (sub-self i);
           passes = a;
+          before-is = sym (ap (λ (n : ℕ). joinOver f (take n (k ∷ ks))) (sub-self i));
+          after-is = sym (ap (λ (n : ℕ). joinOver f (drop (suc n) (k ∷ ks))) (sub-self i));
           whole = refl;
           valid-before = valid-nil;
           valid-after = joined-valid ks b;
@@ -125,8 +132,11 @@ module _ (f : Kid → List ℕ) (g : Kid → Bool) (kin : (k : Kid) → g k ≡ 
           kid = c .kid;
           after = c .after;
           from = omega (arith, c .from);
+          inside = omega (arith, c .from, c .inside);
           is = ap (λ (x : ℕ). getD (k ∷ ks) x noKid) (sym n) ∙ c .is;
           passes = c .passes;
+          before-is = ap (λ (l : List ℕ). f k ++ l) (c .before-is) ∙ ap (λ (x : ℕ). joinOver f (take x (k ∷ ks))) n;
+          after-is = c .after-is ∙ ap (λ (x : ℕ). joinOver f (drop (suc x) (k ∷ ks))) n;
           whole = ap (λ (l : List ℕ). f k ++ l) (c .whole) ∙ sym (append-assoc (f k) (c .before) (f (c .kid) ++ c .after));
           valid-before = valid-append (f k) (c .before) (kin k a .valid) (c .valid-before) .0;
           valid-after = c .valid-after;

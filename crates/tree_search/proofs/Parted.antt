@@ -1,13 +1,15 @@
 -- In a sound tree a search for an index that there is ends at a leaf, and the text parts there.
 use mathlib.Core.Path.{_≡_, refl, sym, ap, _∙_}
-use mathlib.Core.Bool.{true}
+use mathlib.Core.Bool.{true, _&&_}
 use mathlib.Core.List.{List, [], _∷_, _++_, map, append-nil}
 use Prim.Native.Nat.{ℕ, zero, suc, _-_, _≤_}
 use native.Mathlib.Nat.{sub-zero}
 use native.Mathlib.Omega.{arith}
 use lib.Dec.{eqb}
-use lib.ListN.{length, getD}
+use lib.ListN.{length, getD, take, drop}
+use lib.Seq.{length-take-le, split-at}
 use Rattle.plain.specs.Utf8.{decode}
+use Rattle.plain.specs.Count.{crLast, lfFirst}
 use Rattle.plain.specs.Outcome.{Outcome, Outcome.value, past, mapped}
 use Rattle.plain.proofs.Logic.{and-left}
 use Rattle.plain.proofs.Utf8.{valid-append}
@@ -27,12 +29,13 @@ use Rattle.tree.specs.Kids.{fine}
 use Rattle.tree.specs.Kids as Kids
 use Rattle.tree.proofs.Counts.{sum-nil, valid-nil}
 use Rattle.tree.proofs.Sound.{leaf-bytes, list-bytes, children-length, leaf-sound, list-sound}
-use Rattle.tree_search.specs.Search.{countIn, plusSum, childAt, below, leafAt, PartedAt}
+use Rattle.tree_search.specs.Search.{countIn, plusSum, branchAt, below, leafAt, PartedAt}
 use Rattle.tree_search.proofs.Seams.{no-front, no-back}
 use Rattle.tree_search.proofs.Among.{Chosen, sums, chosen}
 use Rattle.tree_search.proofs.Stops.{reached, none-counted}
 use Rattle.tree_search.proofs.Nested.{kin, room-child, not-cons, nested}
-use Rattle.tree_search.proofs.Rules.{listed}
+use Rattle.tree_search.proofs.Rules.{told, listed}
+use Rattle.tree_search.proofs.Way.{Way}
 
 -- ── a search in a list of 1 to 16 children that finds one ──
 
@@ -47,7 +50,7 @@ searched-value ks by at some few h =
 
 -- ── the law ──
 
--- what the search finds, and the text parted there
+-- what the search finds, the text parted there, and the way there
 pub record Ends (m : List ℕ) (h s : ℕ) (by : Measure) (at : ℕ) : Type 0 where
   pub leaf : ℕ
   pub left : TextSum
@@ -55,15 +58,16 @@ pub record Ends (m : List ℕ) (h s : ℕ) (by : Measure) (at : ℕ) : Type 0 wh
   pub after : List ℕ
   pub is : leafAt m h s by at ≡ value (leaf, left)
   pub parted : PartedAt m h s by at leaf left before after
+  pub way : Way m h s by at leaf before after
 
-least-list : (h : ℕ) → leastRoot h ≤ leastAt h
+pub least-list : (h : ℕ) → leastRoot h ≤ leastAt h
 unfolding leastRoot leastAt
 least-list zero = omega arith
 least-list (suc h) = omega arith
 
 module _ (m : List ℕ) (by : Measure) where
   at-leaf : (s at least : ℕ) → sound m least 0 s ≡ true → Ends m 0 s by at
-  unfolding leafAt
+  unfolding leafAt Way
   at-leaf s at least e =
       let l = leaf-sound m least s e in
       record {
@@ -85,6 +89,7 @@ module _ (m : List ℕ) (by : Measure) where
               passed = λ n. absurd (n refl);
               stopped = λ n. absurd (n refl);
             };
+        way = (refl, (refl, refl));
       }
 
   module _ (h s at : ℕ) (list : isList m s ≡ true) (ks : List Kid) (children : childrenOf m s ≡ ks) (few : length ks ≤ 16) (some : 1 ≤ length ks)
@@ -100,23 +105,24 @@ module _ (m : List ℕ) (by : Measure) where
           ap (λ (x : TextSum). sumFrom x ks) (sym sum-nil)
           ∙ sums (Kids.below m h) (fine m h) (kin m h) [] ks valid-nil each seams (no-front (joinOver (Kids.below m h) ks))
 
-      -- a child's index and the counts on its left, with its slot for its index
-      foundAt : Outcome (ℕ × TextSum) → Outcome (ℕ × TextSum)
-      foundAt o = mapped (λ (c : ℕ × TextSum). (getD (childrenOf m s) (c .0) noKid .slot, c .1)) o
+      foundAt : Outcome (ℕ × TextSum) → Outcome (ℕ × (ℕ × TextSum))
+      foundAt o = mapped (told m s) o
 
-      child-is : (c : Chosen (Kids.below m h) (fine m h) (kin m h) (stopsAt by at) 0 [] ks r) → childAt m s by at ≡ value (c .kid .slot, r .1)
+      child-is : (c : Chosen (Kids.below m h) (fine m h) (kin m h) (stopsAt by at) 0 [] ks r) → branchAt m s by at ≡ value (r .0, (c .kid .slot, r .1))
       unfolding foundAt
       child-is c =
           let f : foundAt (searched (listOf (childrenOf m s)) by at) ≡ foundAt (value r)
           = ap (λ (l : List Kid). foundAt (searched (listOf l) by at)) children ∙ ap foundAt (searched-value ks by at some few (omega (arith, ap (mostOf by) total-is))) in
           listed m s by at list ∙ f
-          ∙ ap (λ (l : List Kid). value (getD l (r .0) noKid .slot, r .1)) children
-          ∙ ap (λ (k : Kid). value (k .slot, r .1)) (ap (λ (i : ℕ). getD ks i noKid) (sym (sub-zero (r .0))) ∙ c .is)
+          ∙ ap (λ (l : List Kid). value (r .0, (getD l (r .0) noKid .slot, r .1))) children
+          ∙ ap (λ (k : Kid). value (r .0, (k .slot, r .1))) (ap (λ (i : ℕ). getD ks i noKid) (sym (sub-zero (r .0))) ∙ c .is)
 
       found-child : Chosen (Kids.below m h) (fine m h) (kin m h) (stopsAt by at) 0 [] ks r → Ends m (suc h) s by at
-      unfolding leafAt
+      unfolding leafAt Way
       found-child c =
           let i : ℕ = at - countIn by (r .1) in
+          let j : ℕ = r .0 - 0 in
+          let n : length (take j ks) ≡ r .0 = omega (arith, length-take-le j ks (omega (arith, c .inside))) in
           let e = down (c .kid .slot) i (and-left (sound m (leastAt h) h (c .kid .slot)) (toldRight m h (c .kid)) (c .passes)) (room-child m h by at ks r c room) in
           record {
             leaf = e .leaf;
@@ -127,6 +133,23 @@ module _ (m : List ℕ) (by : Measure) where
                 ap (below (λ (k : ℕ) (left : TextSum). leafAt m h k by (at - countIn by left))) (child-is c)
                 ∙ ap (mapped (λ (f : ℕ × TextSum). (f .0, plusSum (r .1) (f .1)))) (e .is);
             parted = nested m h by at ks r c (e .leaf) (e .left) (e .before) (e .after) (e .parted) s (list-bytes m s h ∙ ap (joinOver (Kids.below m h)) children);
+            way =
+                record {
+                  pre = take j ks;
+                  kid = c .kid;
+                  post = drop (suc j) ks;
+                  left = r .1;
+                  near = e .before;
+                  far = e .after;
+                  is = child-is c ∙ ap (λ (x : ℕ). value (x, (c .kid .slot, r .1))) (sym n);
+                  children = children ∙ split-at ks j noKid (c .inside) ∙ ap (λ (k : Kid). take j ks ++ (k ∷ drop (suc j) ks)) (c .is);
+                  whole = e .parted .whole;
+                  seam-before = ap (λ (t : List ℕ). crLast t && lfFirst (Kids.below m h (c .kid))) (sym (c .before-is)) ∙ c .seam-before;
+                  seam-after = ap (λ (t : List ℕ). crLast (Kids.below m h (c .kid)) && lfFirst t) (sym (c .after-is)) ∙ c .seam-after;
+                  before-is = ap (λ (t : List ℕ). t ++ e .before) (c .before-is);
+                  after-is = ap (λ (t : List ℕ). e .after ++ t) (c .after-is);
+                  down = e .way;
+                };
           }
 
   first : (h at : ℕ) (ks : List Kid) → 1 ≤ length ks → every (fine m h) ks ≡ true → seamless (map (Kids.below m h) ks) ≡ true

@@ -1,80 +1,77 @@
 -- From the tests of the code to the definitions: the child that an index lies in, and the leaf below it.
 use mathlib.Core.Path.{_≡_, refl, sym, ap, _∙_}
-use mathlib.Core.Bool.{true, false}
-use mathlib.Core.List.{List, [], _∷_, _++_}
-use Prim.Native.Nat.{ℕ, zero, suc, _+_, _-_, _*_, _≤_, _<_}
+use mathlib.Core.Bool.{Bool, true, false}
+use mathlib.Core.List.{List}
+use Prim.Native.Nat.{ℕ, zero, suc, _-_, _*_, _≤_, _<_}
 use native.Mathlib.Omega.{arith}
-use lib.ListN.{getD, replicate, length}
+use lib.ListN.{getD}
 use Rattle.plain.specs.Outcome.{Outcome.value, Outcome.refused, mapped}
 use Rattle.answer.specs.Answers.{refusalNumber}
 use Rattle.answer.specs.declared.Refusal.{Refusal}
-use Rattle.answer.specs.declared.Verdict.the-variants as Verdict·case
 use Rattle.text_info.specs.Info.{zeros}
 use Rattle.text_info.specs.declared.TextSum.{TextSum}
 use Rattle.pool.specs.declared.Kid.{Kid}
 use Rattle.pool.specs.Slot.{noKid}
-use Rattle.node_children.specs.declared.NodeChildren.{NodeChildren}
-use Rattle.node_children.specs.declared.Listed.{Listed}
-use Rattle.node_children.specs.Kids.{listOf, Listing}
+use Rattle.pool.specs.declared.Entry.{Entry}
+use Rattle.pool.specs.declared.Entry.the-variants as Entry·case
+use Rattle.pool.specs.Calls.{entry, kidOf}
+use Rattle.pool.proofs.Opened.{entry-opened, entry-there}
+use Rattle.node_children.specs.Kids.{listOf}
 use Rattle.child_search.specs.declared.Found.{Found}
 use Rattle.child_search.specs.declared.Found.the-variants as Found·case
 use Rattle.child_search.specs.declared.Measure.{Measure}
 use Rattle.child_search.specs.Sought.{found, searched, Small, Within}
 use Rattle.nodes.specs.Node.{isList, childrenOf}
-use Rattle.nodes.specs.Calls.{loaded}
-use Rattle.child_info.proofs.Rules.{list-read, list-unread}
+use Rattle.nodes.specs.Calls.{listSearched}
+use Rattle.nodes.proofs.Heads.{list-says}
+use Rattle.nodes.proofs.Rules.{search-is, search-not, search-child}
 use Rattle.tree_search.specs.declared.Spot.{Spot}
 use Rattle.tree_search.specs.declared.Spot.the-variants as Spot·case
-use Rattle.tree_search.specs.Search.{spot, Bounded, countIn, plusSum, childAt, below, leafAt}
-
--- ── an entry behind the children is that of no child ──
-
-none-there : (n i : ℕ) (k : Kid) → getD (replicate n k) i k ≡ k
-none-there zero i k = refl
-none-there (suc n) zero k = refl
-none-there (suc n) (suc i) k = none-there n i k
-
-padded : (ks : List Kid) (n i : ℕ) (k : Kid) → getD (ks ++ replicate n k) i k ≡ getD ks i k
-padded [] n i k = none-there n i k
-padded (x ∷ ks) n zero k = refl
-padded (x ∷ ks) n (suc i) k = padded ks n i k
-
-entry-of : (ks : List Kid) (i : ℕ) → getD (listOf ks .arr) i noKid ≡ getD ks i noKid
-unfolding listOf
-entry-of ks i = padded ks (16 - length ks) i noKid
+use Rattle.tree_search.specs.declared.Branch.{Branch}
+use Rattle.tree_search.specs.declared.Branch.the-variants as Branch·case
+use Rattle.tree_search.specs.Search.{spot, branch, Bounded, Narrow, countIn, plusSum, branchAt, below, leafAt}
 
 -- ── a child ──
 
 pub small-found : (f : Found) (i : ℕ) (left : TextSum) → Small f → f ≡ Found·case.At i left → (i < 16) × Within left 16
 small-found f i left s e = rw e at s
 
+-- the child at an index, told with its slot
+abbrev pub told : List ℕ → ℕ → ℕ × TextSum → ℕ × (ℕ × TextSum)
+told m s c = (c .0, (getD (childrenOf m s) (c .0) noKid .slot, c .1))
+
 module _ (m : List ℕ) (s : ℕ) (by : Measure) (at : ℕ) where
-  pub listed : isList m s ≡ true → childAt m s by at ≡ mapped (λ (c : ℕ × TextSum). (getD (childrenOf m s) (c .0) noKid .slot, c .1)) (searched (listOf (childrenOf m s)) by at)
-  unfolding childAt
+  pub listed : isList m s ≡ true → branchAt m s by at ≡ mapped (told m s) (searched (listOf (childrenOf m s)) by at)
+  unfolding branchAt
   listed e = rw e
 
-  unlisted : isList m s ≡ false → childAt m s by at ≡ refused 2
-  unfolding childAt
+  unlisted : isList m s ≡ false → branchAt m s by at ≡ refused 2
+  unfolding branchAt
   unlisted e = rw e
 
-  module _ (r : Listed) (promise : Listing (loaded m s) (listOf []) r) where
-    pub child-no : (q : Refusal) → r .verdict ≡ Verdict·case.Refused q → refused 2 ≡ childAt m s by at
-    child-no q e = sym (unlisted (list-unread m s r promise q e .0))
+  searched-so : branchAt m s by at ≡ mapped (told m s) (listSearched m s by at)
+  searched-so = go (isList m s) refl
+    where
+      go : (b : Bool) → isList m s ≡ b → branchAt m s by at ≡ mapped (told m s) (listSearched m s by at)
+      go true e = listed e ∙ ap (mapped (told m s)) (sym (search-is m s by at e))
+      go false e = unlisted e ∙ ap (mapped (told m s)) (sym (search-not m s by at e))
 
-    module _ (accepted : r .verdict ≡ Verdict·case.Accepted) (f : Found) (search : found f ≡ searched (r .list) by at) where
-      children : found f ≡ searched (listOf (childrenOf m s)) by at
-      children = search ∙ ap (λ (c : NodeChildren). searched c by at) (list-read m s r promise accepted .1)
+  module _ (f : Found) (search : found f ≡ listSearched m s by at) where
+    pub child-refused : (q : Refusal) → f ≡ Found·case.Refused q → refused (refusalNumber q) ≡ branchAt m s by at
+    child-refused q e = ap (mapped (told m s)) (sym (ap found e) ∙ search) ∙ sym searched-so
 
-      pub child-refused : (q : Refusal) → f ≡ Found·case.Refused q → refused (refusalNumber q) ≡ childAt m s by at
-      child-refused q e =
-          ap (mapped (λ (c : ℕ × TextSum). (getD (childrenOf m s) (c .0) noKid .slot, c .1))) (sym (ap found e) ∙ children)
-          ∙ sym (listed (list-read m s r promise accepted .0))
+    module _ (i : ℕ) (left : TextSum) (e : f ≡ Found·case.At i left) (r : Entry) (p : entry r ≡ kidOf m s i) where
+      at-child : listSearched m s by at ≡ value (i, left)
+      at-child = sym search ∙ ap found e
 
-      pub child-found : (i : ℕ) (left : TextSum) → f ≡ Found·case.At i left → value (getD (r .list .arr) i noKid .slot, left) ≡ childAt m s by at
-      child-found i left e =
-          ap (λ (k : Kid). value (k .slot, left)) (ap (λ (c : NodeChildren). getD (c .arr) i noKid) (list-read m s r promise accepted .1) ∙ entry-of (childrenOf m s) i)
-          ∙ ap (mapped (λ (c : ℕ × TextSum). (getD (childrenOf m s) (c .0) noKid .slot, c .1))) (sym (ap found e) ∙ children)
-          ∙ sym (listed (list-read m s r promise accepted .0))
+      -- the entry of a child that was found is there
+      pub child-there : (q : Refusal) → r ≡ Entry·case.Refused q → refused (refusalNumber q) ≡ branchAt m s by at
+      child-there q z = let c = search-child m s by at i left at-child in absurd (entry-there r m s i q p z (list-says m s (c .0) .0) (omega (arith, c .1, list-says m s (c .0) .2)))
+
+      pub child-found : (k : Kid) → r ≡ Entry·case.Is k → value (i, (k .slot, left)) ≡ branchAt m s by at
+      child-found k z =
+          let c = search-child m s by at i left at-child in
+          ap (λ (x : Kid). value (i, (x .slot, left))) (entry-opened r m s i k p z .2 ∙ c .2) ∙ ap (mapped (told m s)) (sym at-child) ∙ sym searched-so
 
 -- ── the leaf below ──
 
@@ -83,23 +80,23 @@ module _ (m : List ℕ) (by : Measure) (at : ℕ) where
   unfolding leafAt
   leaf-here h s z e f = rw (e, f)
 
-  pub leaf-step : (h s : ℕ) → 0 < h → leafAt m h s by at ≡ below (λ (c : ℕ) (left : TextSum). leafAt m (h - 1) c by (at - countIn by left)) (childAt m s by at)
+  pub leaf-step : (h s : ℕ) → 0 < h → leafAt m h s by at ≡ below (λ (c : ℕ) (left : TextSum). leafAt m (h - 1) c by (at - countIn by left)) (branchAt m s by at)
   unfolding leafAt
   leaf-step zero s g = absurd (omega arith)
   leaf-step (suc h) s g = let z : suc h - 1 ≡ h = omega arith in rw z
 
-  module _ (h s : ℕ) (some : 0 < h) (child : Spot) (promise : spot child ≡ childAt m s by at) where
-    pub leaf-refused : (q : Refusal) → child ≡ Spot·case.Refused q → (spot child ≡ leafAt m h s by at) × Bounded h child
+  module _ (h s : ℕ) (some : 0 < h) (child : Branch) (promise : branch child ≡ branchAt m s by at) where
+    pub leaf-refused : (q : Refusal) → child ≡ Branch·case.Refused q → refused (refusalNumber q) ≡ leafAt m h s by at
     leaf-refused q e =
-        (ap spot e ∙ ap (below (λ (c : ℕ) (left : TextSum). leafAt m (h - 1) c by (at - countIn by left))) (sym (ap spot e) ∙ promise) ∙ sym (leaf-step h s some), rw e tt)
+        ap (below (λ (c : ℕ) (left : TextSum). leafAt m (h - 1) c by (at - countIn by left))) (sym (ap branch e) ∙ promise) ∙ sym (leaf-step h s some)
 
-    module _ (k : ℕ) (left : TextSum) (is : child ≡ Spot·case.At k left) (down : Spot) (j : ℕ) (rest : j ≡ at - countIn by left)
+    module _ (i k : ℕ) (left : TextSum) (is : child ≡ Branch·case.At i k left) (down : Spot) (j : ℕ) (rest : j ≡ at - countIn by left)
         (found : spot down ≡ leafAt m (h - 1) k by j)
       where
         stepped : mapped (λ (r : ℕ × TextSum). (r .0, plusSum left (r .1))) (spot down) ≡ leafAt m h s by at
         stepped =
             ap (mapped (λ (r : ℕ × TextSum). (r .0, plusSum left (r .1)))) (found ∙ ap (λ (i : ℕ). leafAt m (h - 1) k by i) rest)
-            ∙ ap (below (λ (c : ℕ) (left : TextSum). leafAt m (h - 1) c by (at - countIn by left))) (sym (ap spot is) ∙ promise)
+            ∙ ap (below (λ (c : ℕ) (left : TextSum). leafAt m (h - 1) c by (at - countIn by left))) (sym (ap branch is) ∙ promise)
             ∙ sym (leaf-step h s some)
 
         pub below-refused : (q : Refusal) → down ≡ Spot·case.Refused q → (spot down ≡ leafAt m h s by at) × Bounded h down
@@ -112,6 +109,9 @@ module _ (m : List ℕ) (by : Measure) (at : ℕ) where
 
 pub bounded-at : (h : ℕ) (d : Spot) (s : ℕ) (left : TextSum) → Bounded h d → d ≡ Spot·case.At s left → Within left (16 * h)
 bounded-at h d s left b e = rw e at b
+
+pub narrow-at : (b : Branch) (i s : ℕ) (left : TextSum) → Narrow b → b ≡ Branch·case.At i s left → Within left 16
+narrow-at b i s left n e = rw e at n
 
 pub no-sums : (z : TextSum) (h : ℕ) → z ≡ zeros → Within z (16 * h)
 no-sums z h e = rw e (record { b = omega arith; c = omega arith; u = omega arith; l = omega arith })

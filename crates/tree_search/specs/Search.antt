@@ -20,10 +20,16 @@ use Rattle.nodes.specs.Node.{isLeaf, isList, textOf, childrenOf}
 use Rattle.tree.specs.Tree.{bytesBelow, sumOf}
 use Rattle.tree_search.specs.declared.Spot.{Spot}
 use Rattle.tree_search.specs.declared.Spot.the-variants as Spot·case
+use Rattle.tree_search.specs.declared.Branch.{Branch}
+use Rattle.tree_search.specs.declared.Branch.the-variants as Branch·case
 
 abbrev pub spot : Spot → Outcome (ℕ × TextSum)
 spot (Spot·case.At s left) = value (s, left)
 spot (Spot·case.Refused r) = refused (refusalNumber r)
+
+abbrev pub branch : Branch → Outcome (ℕ × (ℕ × TextSum))
+branch (Branch·case.At i s left) = value (i, (s, left))
+branch (Branch·case.Refused r) = refused (refusalNumber r)
 
 -- the count of a sum that a search goes by
 abbrev pub countIn : Measure → TextSum → ℕ
@@ -47,22 +53,27 @@ abbrev pub Bounded : ℕ → Spot → Type 0
 Bounded h (Spot·case.At s left) = Within left (16 * h)
 Bounded h (Spot·case.Refused r) = Unit {0}
 
--- the child of the list in slot s that an index lies in: its slot, and the counts on its left
-unfoldable pub childAt : List ℕ → ℕ → Measure → ℕ → Outcome (ℕ × TextSum)
+-- and those that a search in one list can
+abbrev pub Narrow : Branch → Type 0
+Narrow (Branch·case.At i s left) = Within left 16
+Narrow (Branch·case.Refused r) = Unit {0}
+
+-- the child of the list in slot s that an index lies in: its index, its slot, and the counts on its left
+unfoldable pub branchAt : List ℕ → ℕ → Measure → ℕ → Outcome (ℕ × (ℕ × TextSum))
 unfolding isList searched
-childAt m s by at =
-    cond (isList m s) (mapped (λ c. (getD (childrenOf m s) (c .0) noKid .slot, c .1)) (searched (listOf (childrenOf m s)) by at)) (refused 2)
+branchAt m s by at =
+    cond (isList m s) (mapped (λ c. (c .0, (getD (childrenOf m s) (c .0) noKid .slot, c .1))) (searched (listOf (childrenOf m s)) by at)) (refused 2)
 
 -- what was found below a child, with the counts on the child's left added
-abbrev pub below : (ℕ → TextSum → Outcome (ℕ × TextSum)) → Outcome (ℕ × TextSum) → Outcome (ℕ × TextSum)
-below f (value c) = mapped (λ r. (r .0, plusSum (c .1) (r .1))) (f (c .0) (c .1))
+abbrev pub below : (ℕ → TextSum → Outcome (ℕ × TextSum)) → Outcome (ℕ × (ℕ × TextSum)) → Outcome (ℕ × TextSum)
+below f (value c) = mapped (λ r. (r .0, plusSum (c .1 .1) (r .1))) (f (c .1 .0) (c .1 .1))
 below f (refused n) = refused n
 
 -- the leaf that an index lies in, and the counts on its left
 unfoldable pub leafAt : List ℕ → ℕ → ℕ → Measure → ℕ → Outcome (ℕ × TextSum)
-unfolding childAt
+unfolding branchAt
 leafAt m zero s by at = value (s, zeros)
-leafAt m (suc h) s by at = below (λ c left. leafAt m h c by (at - countIn by left)) (childAt m s by at)
+leafAt m (suc h) s by at = below (λ c left. leafAt m h c by (at - countIn by left)) (branchAt m s by at)
 
 -- The bytes of the tree of height h at slot s parted at one leaf, of which left are the counts on its left and at is the index that was sought.
 pub record PartedAt (m : List ℕ) (h s : ℕ) (by : Measure) (at leaf : ℕ) (left : TextSum) (before after : List ℕ) : Type 0 where

@@ -1,14 +1,15 @@
 // A leaf sought in the tree by an index, one level down at each step. Total on any bytes: where a slot on the way holds no list, refused
 // by 2; where the index is past the end of what lies below one, by 3.
 use answer::Refusal;
-use answer::Verdict;
 use child_search::Found;
 use child_search::Measure;
+use pool::Entry;
+use pool::kid_of;
 use text_info::TextSum;
 ghost use mathlib.Core.Path.{_≡_};
-ghost use Prim.Native.Nat.{_+_, _-_};
+ghost use Prim.Native.Nat.{_-_};
 ghost use Rattle.child_search.specs.Sought.{Within};
-ghost use Rattle.tree_search.specs.Search.{spot, Bounded, countIn, plusSum, childAt, leafAt};
+ghost use Rattle.tree_search.specs.Search.{spot, branch, Bounded, Narrow, countIn, plusSum, branchAt, leafAt};
 
 // A leaf's slot, and the counts of the text on its left.
 pub enum Spot {
@@ -16,28 +17,32 @@ pub enum Spot {
     Refused(Refusal),
 }
 
-// The count of a sum that a search goes by.
-fn count_in(by: Measure, s: TextSum) -> u64
-    requires { ⌜ Within s 16 ⌝ }
-    ensures { λ r. ⌜ r ≡ countIn by s ⌝ }
-{
-    match by {
-        Measure::Bytes => s.bytes,
-        Measure::Chars => s.chars,
-        Measure::Utf16 => s.chars + s.utf16_surrogates,
-        Measure::Breaks => s.line_breaks,
-        Measure::CharEnds => s.chars,
-    }
+// A child of a list: its index, its slot, and the counts of the text on its left.
+pub enum Branch {
+    At(usize, usize, TextSum),
+    Refused(Refusal),
 }
 
-// The index without what lies on the left of it.
-fn rest(at: usize, left: u64) -> usize
+fn less(at: usize, left: u64) -> usize
     ensures { λ r. ⌜ r ≡ at - left ⌝ }
 {
     if (at as u64) < left {
         return 0;
     }
     at - left as usize
+}
+
+// The index without what lies on the left of it, by the count that the search goes by.
+pub fn rest(by: Measure, at: usize, left: TextSum) -> usize
+    ensures { λ r. ⌜ r ≡ at - countIn by left ⌝ }
+{
+    match by {
+        Measure::Bytes => less(at, left.bytes),
+        Measure::Chars => less(at, left.chars),
+        Measure::Utf16 => less(less(at, left.chars), left.utf16_surrogates),
+        Measure::Breaks => less(at, left.line_breaks),
+        Measure::CharEnds => less(at, left.chars),
+    }
 }
 
 // Two sums added up.
@@ -53,22 +58,16 @@ fn joined(a: TextSum, b: TextSum) -> TextSum
     }
 }
 
-// The child of a list that an index lies in: its slot, and the counts on its left.
-fn child_at(m: &[u8], slot: usize, by: Measure, at: usize) -> Spot
-    ensures { λ r. ⌜ (spot r ≡ childAt (now (m .entry)) slot by at) × Bounded 1 r ⌝ }
+// The child of a list that an index lies in.
+pub fn child_at(m: &[u8], slot: usize, by: Measure, at: usize) -> Branch
+    ensures { λ r. ⌜ (branch r ≡ branchAt (now (m .entry)) slot by at) × Narrow r ⌝ }
 {
-    let node = nodes::load(m, slot);
-    let verdict = node.verdict;
-    let Verdict::Accepted = verdict else {
-        return Spot::Refused(Refusal::Memory);
-    };
-    let list = node.list;
-    match child_search::search_by(list, by, at) {
-        Found::Refused(r) => Spot::Refused(r),
-        Found::At(i, left) => {
-            let kid = list.arr[i];
-            Spot::At(kid.slot as usize, left)
-        }
+    match nodes::search(m, slot, by, at) {
+        Found::Refused(r) => Branch::Refused(r),
+        Found::At(i, left) => match kid_of(m, slot, i) {
+            Entry::Refused(r) => Branch::Refused(r),
+            Entry::Is(kid) => Branch::At(i, kid.slot as usize, left),
+        },
     }
 }
 
@@ -79,13 +78,14 @@ pub fn leaf_at(m: &[u8], level: u8, slot: usize, by: Measure, at: usize) -> Spot
     if level == 0 {
         return Spot::At(slot, TextSum::new());
     }
-    let child = child_at(m, slot, by, at);
-    let Spot::At(kid, left) = child else {
-        return child;
-    };
-    let down = leaf_at(m, level - 1, kid, by, rest(at, count_in(by, left)));
-    let Spot::At(leaf, inner) = down else {
-        return down;
-    };
-    Spot::At(leaf, joined(left, inner))
+    match child_at(m, slot, by, at) {
+        Branch::Refused(r) => Spot::Refused(r),
+        Branch::At(_, kid, left) => {
+            let down = leaf_at(m, level - 1, kid, by, rest(by, at, left));
+            let Spot::At(leaf, inner) = down else {
+                return down;
+            };
+            Spot::At(leaf, joined(left, inner))
+        }
+    }
 }

@@ -1,8 +1,7 @@
 -- `leaf_at` meets its contract; the height falls.
-use mathlib.Core.Path.{ap, _∙_}
 use borrow.Author.Needs.{needs}
 use native.Mathlib.Omega.{arith}
-use Rattle.tree_search.proofs.Rules.{leaf-here, leaf-refused, below-refused, below-found, bounded-at, no-sums, sums-within, within-less}
+use Rattle.tree_search.proofs.Rules.{leaf-here, leaf-refused, below-refused, below-found, bounded-at, narrow-at, no-sums, sums-within, within-less}
 use Prim.Native.Nat.{ℕ, _-_, _*_, _<_}
 use borrow.Fn.Kinds.{In}
 use borrow.Fn.PlainCycle.{Measures, is, falls, and}
@@ -11,7 +10,6 @@ use Rattle.tree_search.proofs.leaf_at.Kinds as leaf-at-kinds
 use Rattle.tree_search.proofs.+leaf_at.Lts-leaf_at as leaf-at-lts
 use Rattle.text_info.proofs.TextSum.new.Reads as new-reads
 use Rattle.tree_search.proofs.child_at.Reads as child-at-reads
-use Rattle.tree_search.proofs.count_in.Reads as count-in-reads
 use Rattle.tree_search.proofs.joined.Reads as joined-reads
 use Rattle.tree_search.proofs.rest.Reads as rest-reads
 use Rattle.tree_search.proofs.+leaf_at.{statement}
@@ -33,8 +31,6 @@ Calls t = (
   new-reads.Learnt,
   child-at-reads.Asked,
   child-at-reads.Learnt,
-  count-in-reads.Asked,
-  count-in-reads.Learnt,
   rest-reads.Asked,
   rest-reads.Learnt,
   leaf-at-below t,
@@ -54,23 +50,14 @@ leaf-at-returns t c =
 leaf-at-child-at-requires : (t : ℕ) → leaf-at-lts.Need-child-at-requires (Calls t) (leaf-at-at t) leaf-at.Post
 leaf-at-child-at-requires t c κs = tt
 
-leaf-at-enum-known-child : (t : ℕ) → leaf-at-lts.Need-enum-known-child (Calls t) (leaf-at-at t) leaf-at.Post
-leaf-at-enum-known-child t c = search needs
+leaf-at-enum-known-r : (t : ℕ) → leaf-at-lts.Need-enum-known-r (Calls t) (leaf-at-at t) leaf-at.Post
+leaf-at-enum-known-r t c = search needs
 
-leaf-at-enum-told : (t : ℕ) → leaf-at-lts.Need-enum-told (Calls t) (leaf-at-at t) leaf-at.Post
-leaf-at-enum-told t c = search needs
-
-leaf-at-returns-2 : (t : ℕ) → leaf-at-lts.Need-returns-2 (Calls t) (leaf-at-at t) leaf-at.Post
-leaf-at-returns-2 t c =
-    let a = c .before .before .before .before .before .args in
-    leaf-refused (a .m .now) (a .by) (a .at) (a .level) (a .slot) (omega (arith, c .before .before .before .if1 .left)) _ (c .before .before .child-at .ensures .0) _ (c .enum-told .given .1)
+leaf-at-enum-known-kid : (t : ℕ) → leaf-at-lts.Need-enum-known-kid (Calls t) (leaf-at-at t) leaf-at.Post
+leaf-at-enum-known-kid t c = search needs
 
 leaf-at-sub-leaf-at : (t : ℕ) → leaf-at-lts.Need-sub-leaf-at (Calls t) (leaf-at-at t) leaf-at.Post
 leaf-at-sub-leaf-at t c = omega arith
-
-leaf-at-count-in-requires : (t : ℕ) → leaf-at-lts.Need-count-in-requires (Calls t) (leaf-at-at t) leaf-at.Post
-leaf-at-count-in-requires t c κs =
-    bounded-at 1 _ _ _ (c .before .before .before .child-at .ensures .1) (c .before .child .given .1)
 
 leaf-at-rest-requires : (t : ℕ) → leaf-at-lts.Need-rest-requires (Calls t) (leaf-at-at t) leaf-at.Post
 leaf-at-rest-requires t c κs = tt
@@ -81,31 +68,36 @@ leaf-at-leaf-at-requires t c κs = (omega arith, tt)
 leaf-at-enum-known-down : (t : ℕ) → leaf-at-lts.Need-enum-known-down (Calls t) (leaf-at-at t) leaf-at.Post
 leaf-at-enum-known-down t c = search needs
 
-leaf-at-enum-told-2 : (t : ℕ) → leaf-at-lts.Need-enum-told-2 (Calls t) (leaf-at-at t) leaf-at.Post
-leaf-at-enum-told-2 t c = search needs
+leaf-at-enum-told : (t : ℕ) → leaf-at-lts.Need-enum-told (Calls t) (leaf-at-at t) leaf-at.Post
+leaf-at-enum-told t c = search needs
 
-leaf-at-returns-3 : (t : ℕ) → leaf-at-lts.Need-returns-3 (Calls t) (leaf-at-at t) leaf-at.Post
-leaf-at-returns-3 t c =
-    let a = c .before .before .before .before .before .before .before .before .before .before .before .args in
-    below-refused (a .m .now) (a .by) (a .at) (a .level) (a .slot) (omega (arith, c .before .before .before .before .before .before .before .before .before .if1 .left)) _ (c .before .before .before .before .before .before .before .before .child-at .ensures .0) _ _ (c .before .before .before .before .before .before .child .given .1) _ _
-    (c .before .before .before .rest .ensures ∙ ap (λ (n : ℕ). a .at - n) (c .before .before .before .before .count-in .ensures)) (c .before .before .leaf-at .ensures .0) _ (c .enum-told2 .given .1)
+leaf-at-returns-2 : (t : ℕ) → leaf-at-lts.Need-returns-2 (Calls t) (leaf-at-at t) leaf-at.Post
+leaf-at-returns-2 t c =
+    let a = c .before .before .before .before .before .before .before .before .before .before .args in
+    below-refused (a .m .now) (a .by) (a .at) (a .level) (a .slot) (omega (arith, c .before .before .before .before .before .before .before .before .if1 .left)) _ (c .before .before .before .before .before .before .before .child-at .ensures .0) _ _ _ (c .before .before .before .before .before .kid .given .1) _ _
+    (c .before .before .before .rest .ensures) (c .before .before .leaf-at .ensures .0) _ (c .enum-told .given .1)
 
 leaf-at-joined-requires : (t : ℕ) → leaf-at-lts.Need-joined-requires (Calls t) (leaf-at-at t) leaf-at.Post
 leaf-at-joined-requires t c κs =
-    let a = c .before .before .before .before .before .before .before .before .before .before .before .before .args in (
-      bounded-at 1 _ _ _ (c .before .before .before .before .before .before .before .before .before .child-at .ensures .1) (c .before .before .before .before .before .before .before .child .given .1),
+    let a = c .before .before .before .before .before .before .before .before .before .before .before .args in (
+      narrow-at _ _ _ _ (c .before .before .before .before .before .before .before .before .child-at .ensures .1) (c .before .before .before .before .before .before .kid .given .1),
       within-less _ (16 * (a .level - 1)) 4080 (omega arith) (bounded-at (a .level - 1) _ _ _ (c .before .before .before .leaf-at .ensures .1) (c .before .down .given .1)),
     )
 
+leaf-at-returns-3 : (t : ℕ) → leaf-at-lts.Need-returns-3 (Calls t) (leaf-at-at t) leaf-at.Post
+leaf-at-returns-3 t c =
+    let a = c .before .before .before .before .before .before .args in
+    (leaf-refused (a .m .now) (a .by) (a .at) (a .level) (a .slot) (omega (arith, c .before .before .before .before .if1 .left)) _ (c .before .before .before .child-at .ensures .0) _ (c .before .r .given .1), tt)
+
 leaf-at-returns-4 : (t : ℕ) → leaf-at-lts.Need-returns-4 (Calls t) (leaf-at-at t) leaf-at.Post
 leaf-at-returns-4 t c =
-    let a = c .before .before .before .before .before .before .before .before .before .before .before .before .before .args in
-    let some : 0 < a .level = omega (arith, c .before .before .before .before .before .before .before .before .before .before .before .if1 .left) in
-    let left = c .before .before .before .before .before .before .before .before .child .given in
+    let a = c .before .before .before .before .before .before .before .before .before .before .before .before .args in
+    let some : 0 < a .level = omega (arith, c .before .before .before .before .before .before .before .before .before .before .if1 .left) in
+    let kid = c .before .before .before .before .before .before .before .kid .given in
     let inner = c .before .before .down .given in (
-      below-found (a .m .now) (a .by) (a .at) (a .level) (a .slot) some _ (c .before .before .before .before .before .before .before .before .before .before .child-at .ensures .0) _ _ (left .1) _ _
-          (c .before .before .before .before .before .rest .ensures ∙ ap (λ (n : ℕ). a .at - n) (c .before .before .before .before .before .before .count-in .ensures)) (c .before .before .before .before .leaf-at .ensures .0) _ _ _ (inner .1) (c .joined .ensures),
-      sums-within _ _ _ (a .level) some (bounded-at 1 _ _ _ (c .before .before .before .before .before .before .before .before .before .before .child-at .ensures .1) (left .1)) (bounded-at (a .level - 1) _ _ _ (c .before .before .before .before .leaf-at .ensures .1) (inner .1)) (c .joined .ensures),
+      below-found (a .m .now) (a .by) (a .at) (a .level) (a .slot) some _ (c .before .before .before .before .before .before .before .before .before .child-at .ensures .0) _ _ _ (kid .1) _ _
+          (c .before .before .before .before .before .rest .ensures) (c .before .before .before .before .leaf-at .ensures .0) _ _ _ (inner .1) (c .joined .ensures),
+      sums-within _ _ _ (a .level) some (narrow-at _ _ _ _ (c .before .before .before .before .before .before .before .before .before .child-at .ensures .1) (kid .1)) (bounded-at (a .level - 1) _ _ _ (c .before .before .before .before .leaf-at .ensures .1) (inner .1)) (c .joined .ensures),
     )
 
 pub +leaf-at-spec : {M : Type 1} → statement M
@@ -115,15 +107,14 @@ pub +leaf-at-spec : {M : Type 1} → statement M
     (leaf-at-new-requires t)
     (leaf-at-returns t)
     (leaf-at-child-at-requires t)
-    (leaf-at-enum-known-child t)
-    (leaf-at-enum-told t)
-    (leaf-at-returns-2 t)
+    (leaf-at-enum-known-r t)
+    (leaf-at-enum-known-kid t)
     (leaf-at-sub-leaf-at t)
-    (leaf-at-count-in-requires t)
     (leaf-at-rest-requires t)
     (leaf-at-leaf-at-requires t)
     (leaf-at-enum-known-down t)
-    (leaf-at-enum-told-2 t)
-    (leaf-at-returns-3 t)
+    (leaf-at-enum-told t)
+    (leaf-at-returns-2 t)
     (leaf-at-joined-requires t)
+    (leaf-at-returns-3 t)
     (leaf-at-returns-4 t)

@@ -1,0 +1,113 @@
+-- The two calls of the crate splices on a memory that holds a note: a piece put in where its side asks, and some chars before a place taken out.
+use mathlib.Core.Path.{_≡_, refl, sym, ap, subst, _∙_}
+use mathlib.Core.Bool.{Bool, true, false, cond}
+use mathlib.Core.List.{List, [], _∷_}
+use Prim.Native.Nat.{ℕ, _-_, _≤_, _<_}
+use native.Mathlib.Omega.{arith}
+use lib.ListN.{length, take, take-append-drop}
+use Rattle.plain.specs.Utf8.{decode}
+use Rattle.plain.specs.Count.{crLast}
+use Rattle.plain.specs.Edit.{putIn, cutOut}
+use Rattle.plain.specs.Outcome.{Outcome.value, Outcome.refused}
+use Rattle.answer.specs.Answers.{refusalNumber, number, verdict}
+use Rattle.answer.specs.declared.Refusal.{Refusal}
+use Rattle.answer.specs.declared.Number.{Number}
+use Rattle.answer.specs.declared.Number.the-variants as Number·case
+use Rattle.answer.specs.declared.Verdict.{Verdict}
+use Rattle.child_search.specs.declared.Measure.{Measure}
+use Rattle.child_search.specs.declared.Measure.the-variants.{Chars, CharEnds}
+use Rattle.note_head.specs.Head.{nOf}
+use Rattle.memory.specs.Formed.{noteBytes}
+use Rattle.edits.specs.Acts.{Act, Did}
+use Rattle.splices.specs.Splices.{putAt, cutAt}
+use Rattle.splice_laws.proofs.Put.{Sided, put-held}
+use Rattle.splice_laws.proofs.Cut.{CutHeld, cut-held}
+use Rattle.edited.specs.Turned.{textIn, Turned, Puts, Cuts}
+use Rattle.edited.proofs.Lent.{turned}
+use Rattle.edited.proofs.Removal.{turned-same, cut-on, cut-further}
+use Rattle.note_edits.specs.Side.{sideOf}
+
+-- the side, by the answer of `behind_cr`
+pub side-is : (cs : List ℕ) (p : ℕ) (t : Bool) → t ≡ crLast (take p cs) → cond t CharEnds Chars ≡ sideOf cs p
+side-is cs p t e = ap (λ (b : Bool). cond b CharEnds Chars) e
+
+sided : (cs : List ℕ) (p : ℕ) → Sided (sideOf cs p) cs p
+sided cs p = go (crLast (take p cs)) refl
+  where
+    go : (t : Bool) → crLast (take p cs) ≡ t → Sided (cond t CharEnds Chars) cs p
+    go true e = e
+    go false e = e
+
+-- ── a piece put in ──
+
+empty : (l : List ℕ) → length l ≡ 0 → l ≡ []
+empty [] e = refl
+empty (x ∷ l) e = absurd (omega arith)
+
+none-decoded : decode [] ≡ []
+unfolding decode
+none-decoded = refl
+
+module _ (m : List ℕ) (p : ℕ) (piece : List ℕ) (w : Puts m p piece) where
+  -- an empty one
+  pub put-none : length piece ≡ 0 → Turned m (putIn p (decode piece) (textIn m)) m
+  put-none e =
+      let z : piece ≡ [] = empty piece e in
+      turned-same m (putIn p (decode piece) (textIn m)) (w .holds)
+      (sym (ap (λ (l : List ℕ). putIn p (decode l) (textIn m)) z ∙ ap (λ (l : List ℕ). putIn p l (textIn m)) none-decoded ∙ take-append-drop p (textIn m)))
+
+  pub put-turned : (by : Measure) → by ≡ sideOf (textIn m) p → (r : Verdict) (after : List ℕ) → Did verdict (putAt m by p piece) r after
+      → Turned m (putIn p (decode piece) (textIn m)) after
+  put-turned by e r after d =
+      let o = put-held m (nOf m) (noteBytes m) (w .holds) p piece (w .valid) (w .short) (w .room) by (subst (λ (b : Measure). Sided b (textIn m) p) (sym e) (sided (textIn m) p)) (w .here) in
+      let z : after ≡ o .later = d .memory ∙ ap (λ (x : Act (Unit {0})). x .1) (o .is) in
+      subst (Turned m (putIn p (decode piece) (textIn m))) (sym z) (turned m (o .later) (nOf m) (o .new) (putIn p (decode piece) (textIn m)) (o .held) (o .chars) (o .kept))
+
+-- ── chars taken out before a place ──
+
+-- so many of [s, e), at least one
+pub record Took (m : List ℕ) (s e : ℕ) (r : Number) (after : List ℕ) : Type 0 where
+  pub count : ℕ
+  pub some : 1 ≤ count
+  pub most : count ≤ e - s
+  pub is : number r ≡ value count
+  pub left : Turned m (cutOut (e - count) e (textIn m)) after
+
+took-by : (m : List ℕ) (s e : ℕ) (r : Number) (after : List ℕ) → Did number (cutAt m e (e - s)) r after → CutHeld m (nOf m) (noteBytes m) e (e - s) → Took m s e r after
+took-by m s e r after d o =
+    let z : after ≡ o .later = d .memory ∙ ap (λ (x : Act ℕ). x .1) (o .is) in
+    record {
+      count = o .count;
+      some = o .some;
+      most = o .most;
+      is = d .answered ∙ ap (λ (x : Act ℕ). x .0) (o .is);
+      left = subst (Turned m (cutOut (e - o .count) e (textIn m))) (sym z) (turned m (o .later) (nOf m) (o .new) (cutOut (e - o .count) e (textIn m)) (o .held) (o .chars) (o .kept));
+    }
+
+took : (m : List ℕ) (s e : ℕ) → Cuts m s e → s < e → (r : Number) (after : List ℕ) → Did number (cutAt m e (e - s)) r after → Took m s e r after
+took m s e w h r after d =
+    took-by m s e r after d
+    (cut-held m (nOf m) (noteBytes m) (w .holds) e (e - s) (omega arith) (omega arith) (λ c l k. w .loose (e - c) (omega arith) (omega arith)) (w .high))
+
+-- ── a turn of the loop: [q, e) is out, and some of [s, q) goes ──
+
+module _ (m : List ℕ) (s e : ℕ) (w : Cuts m s e) (q : ℕ) (low : s ≤ q) (high : q ≤ e) (a : List ℕ) (t : Turned m (cutOut q e (textIn m)) a)
+    (some : s < q) (r : Number) (after : List ℕ) (d : Did number (cutAt a q (q - s)) r after) where
+  abbrev step : Took a s q r after
+  step = took a s q (cut-on m s e w q low high a t) some r after d
+
+  -- the answer is no refusal
+  pub turn-refused : {X : Type 0} (n : Refusal) → r ≡ Number·case.Refused n → X
+  turn-refused n f = absurd (let z : refused (refusalNumber n) ≡ value (step .count) = sym (ap number f) ∙ step .is in let y : _≡_ {A = ℕ} 0 1 = cc in omega arith)
+
+  module _ (c : ℕ) (f : r ≡ Number·case.Is c) where
+    count-is : step .count ≡ c
+    count-is = let z : value (step .count) ≡ value c = sym (step .is) ∙ ap number f in cc
+
+    pub turn-some : (1 ≤ c) × (c ≤ q - s)
+    turn-some = (omega (arith, step .some, count-is), omega (arith, step .most, count-is))
+
+    pub turn-left : Turned m (cutOut (q - c) e (textIn m)) after
+    turn-left =
+        cut-further m s e w q low high a t (q - c) (omega arith) after
+        (subst (λ (k : ℕ). Turned a (cutOut (q - k) q (textIn a)) after) count-is (step .left))

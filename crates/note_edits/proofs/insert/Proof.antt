@@ -1,0 +1,101 @@
+-- `insert` meets its contract: the refusal, or what the steps leave in the part of the memory that was lent to them.
+use mathlib.Core.Path.{_≡_, sym, ap, subst, _∙_}
+use mathlib.Core.List.{List, []}
+use Prim.Native.Nat.{ℕ}
+use lib.Seq.{length-take-le}
+use borrow.Author.Needs.{needs}
+use mir.Syntax.{w64}
+use mir.ValLaws.{toZ-ofZ}
+use Rattle.plain.specs.Utf8.{decode}
+use Rattle.plain.specs.Edit.{putIn}
+use Rattle.answer.specs.Answers.{verdict}
+use Rattle.edited.specs.Turned.{textIn, Turned, Puts}
+use Rattle.edited.proofs.Promise.{own-part, rest-part, own-room, insert-formed, insert-puts, insert-refused, insert-done}
+use Rattle.note_edits.proofs.insert.Statement.{statement}
+use Rattle.note_edits.proofs.insert.Tie as tie
+
+insert-refusal-requires : tie.Need-insert-refusal-requires
+insert-refusal-requires c κs = search needs
+
+enum-known-may : tie.Need-enum-known-may
+enum-known-may c = search needs
+
+enum-told : tie.Need-enum-told
+enum-told c = search needs
+
+breaks-of-requires : tie.Need-breaks-of-requires
+breaks-of-requires c κs = search needs
+
+slots-requires : tie.Need-slots-requires
+slots-requires c κs = search needs
+
+mul-end : tie.Need-mul-end
+mul-end c = search needs
+
+add-end : tie.Need-add-end
+add-end c = search needs
+
+slice-relend-prefix-insert-own : tie.Need-slice-relend-prefix-insert-own
+slice-relend-prefix-insert-own c =
+    let a = c .before .before .before .before .before .before .before .before .before .before .args in
+    own-room (a .m .now) _ (c .slots .ensures .0) (insert-formed (a .m .now) (a .p) (a .piece .now) (sym (ap verdict (c .before .before .before .before .enum-told .given .1)) ∙ c .before .before .before .before .before .before .insert-refusal .ensures))
+
+slice-aggregate-insert-own : tie.Need-slice-aggregate-insert-own
+slice-aggregate-insert-own c =
+    let a = c .before .before .before .before .before .before .before .before .before .before .before .args in
+    sym (length-take-le _ (a .m .now) (own-room (a .m .now) _ (c .before .slots .ensures .0) (insert-formed (a .m .now) (a .p) (a .piece .now) (sym (ap verdict (c .before .before .before .before .before .enum-told .given .1)) ∙ c .before .before .before .before .before .before .before .insert-refusal .ensures))))
+
+insert-own-requires : tie.Need-insert-own-requires
+insert-own-requires c κs =
+    let a = c .before .before .before .before .before .before .before .before .before .before .before .args in
+    subst (λ (l : List ℕ). Puts l (a .p) (a .piece .now)) (sym (own-part (a .m .now) _ (c .before .slots .ensures .0))) (insert-puts (a .m .now) (a .p) (a .piece .now) (sym (ap verdict (c .before .before .before .before .before .enum-told .given .1)) ∙ c .before .before .before .before .before .before .before .insert-refusal .ensures))
+
+breaks-of-requires-2 : tie.Need-breaks-of-requires-2
+breaks-of-requires-2 c κs = search needs
+
+difference-requires : tie.Need-difference-requires
+difference-requires c κs = search needs
+
+same-length : tie.Need-same-length
+same-length c = search needs
+
+returns : tie.Need-returns
+returns c =
+    let a = c .before .before .before .before .before .before .before .args in
+    insert-refused (a .m .now) (a .p) (a .piece .now) _ (sym (ap verdict (c .before .may .given .1)) ∙ c .before .before .before .insert-refusal .ensures)
+
+same-length-2 : tie.Need-same-length-2
+same-length-2 c = search needs
+
+returns-2 : tie.Need-returns-2
+returns-2 c =
+    let a = c .before .before .before .before .before .before .before .before .before .before .before .before .before .before .before .before .before .args in
+    let later = c .before .before .before .before .before .insert-own .last .0 in
+    let k = c .before .before .before .before .before .before .before .slots .ensures .0 in
+    let o = own-part (a .m .now) _ k in
+    insert-done (a .m .now) (a .p) (a .piece .now) (sym (ap verdict (c .before .before .before .before .before .before .before .before .before .before .before .enum-told .given .1)) ∙ c .before .before .before .before .before .before .before .before .before .before .before .before .before .insert-refusal .ensures) later
+    (subst (λ (l : List ℕ). Turned l (putIn (a .p) (decode (a .piece .now)) (textIn l)) later) o (c .before .before .before .before .before .insert-own .ensures .0))
+    (subst (λ (l : List ℕ). a .piece .now ≡ [] → later ≡ l) o (c .before .before .before .before .before .insert-own .ensures .1))
+    _ (rest-part (a .m .now) _ k later) _ _ (c .before .before .before .before .before .before .before .before .before .breaks-of .ensures) (c .before .breaks-of2 .ensures) _
+    (toZ-ofZ w64 (c .difference .result) (record { sfits = c .difference .ok }) ∙ c .difference .ensures)
+
+pub insert-spec : {M : Type 1} → statement M
+insert-spec =
+    tie.close
+    (tie.spec
+    insert-refusal-requires
+    enum-known-may
+    enum-told
+    breaks-of-requires
+    slots-requires
+    mul-end
+    add-end
+    slice-relend-prefix-insert-own
+    slice-aggregate-insert-own
+    insert-own-requires
+    breaks-of-requires-2
+    difference-requires
+    same-length
+    returns
+    same-length-2
+    returns-2)

@@ -1,0 +1,4 @@
+pub mod Rules
+pub mod Topped
+pub mod Parts
+pub mod Rooted

@@ -1,0 +1,76 @@
+// One leaf of the note edited, from the root down and up again.
+use answer::Number;
+use answer::Verdict;
+use child_search::Measure;
+use descent::edit_at;
+use leaf_parts::above;
+use leaf_parts::byte_in;
+use leaf_parts::spot_of;
+use leaf_parts::text_at;
+use note_head::height;
+use note_head::root;
+use root_step::put_root;
+use tree_search::Spot;
+ghost use mathlib.Core.Path.{_≡_};
+ghost use Rattle.answer.specs.Answers.{number, verdict};
+ghost use Rattle.edits.specs.Acts.{Did};
+ghost use Rattle.splices.specs.Splices.{spliced, putAt, lesser, cutAt};
+
+fn place(slot: u32) -> usize
+    ensures { λ r. ⌜ r ≡ slot ⌝ }
+{
+    slot as usize
+}
+
+// The bytes [start, end) of the leaf that a search finds give way to a piece.
+fn splice(m: &mut [u8], by: Measure, at: usize, start: usize, end: usize, piece: &[u8]) -> Verdict
+    ensures { λ r. ⌜ Did verdict (spliced (now (m .entry)) by at start end (now (piece .entry))) r (now (m .exit)) ⌝ }
+{
+    let kid = root(m);
+    let h = height(m);
+    let made = edit_at(m, h, place(kid.slot), by, at, start, end, piece);
+    put_root(m, made)
+}
+
+// A piece put in at a place.
+pub fn put_in(m: &mut [u8], by: Measure, at: usize, piece: &[u8]) -> Verdict
+    ensures { λ r. ⌜ Did verdict (putAt (now (m .entry)) by at (now (piece .entry))) r (now (m .exit)) ⌝ }
+{
+    match spot_of(m, by, at) {
+        Spot::Refused(r) => Verdict::Refused(r),
+        Spot::At(leaf, left) => {
+            let i = byte_in(text_at(m, leaf), above(at, left.chars as usize));
+            splice(m, by, at, i, i, piece)
+        }
+    }
+}
+
+fn least(a: usize, b: usize) -> usize
+    ensures { λ r. ⌜ r ≡ lesser a b ⌝ }
+{
+    if a < b {
+        return a;
+    }
+    b
+}
+
+// At most k chars before a place taken out of the leaf that holds the last of them: how many they were.
+pub fn take_out(m: &mut [u8], at: usize, k: usize) -> Number
+    ensures { λ r. ⌜ Did number (cutAt (now (m .entry)) at k) r (now (m .exit)) ⌝ }
+{
+    match spot_of(m, Measure::CharEnds, at) {
+        Spot::Refused(r) => Number::Refused(r),
+        Spot::At(leaf, left) => {
+            let inner = above(at, left.chars as usize);
+            let c = least(k, inner);
+            let text = text_at(m, leaf);
+            let start = byte_in(text, inner - c);
+            let end = byte_in(text, inner);
+            let empty: [u8; 1] = [0; 1];
+            match splice(m, Measure::CharEnds, at, start, end, &empty[..0]) {
+                Verdict::Refused(r) => Number::Refused(r),
+                Verdict::Accepted => Number::Is(c),
+            }
+        }
+    }
+}
