@@ -1,6 +1,6 @@
 #!/bin/sh
 # damage.sh [--short]   asks every call of a note on damaged memories. No word: some minutes. --short: some seconds.
-# TEXT_C_DIR=FOLDER  link the libnote_c.a there instead of building it (archives.sh)
+# TEXT_C_DIR=FOLDER  link the libnote_c.a and libedits_c.a there instead of building them (archives.sh)
 set -eu
 root=$(cd "$(dirname "$0")/.." && pwd)
 . "$root/tests/host.sh"
@@ -8,7 +8,7 @@ root=$(cd "$(dirname "$0")/.." && pwd)
 
 cd "$root"
 if [ -z "${TEXT_C_DIR-}" ]; then
-    tests/archives.sh note_c
+    tests/archives.sh note_c edits_c
     TEXT_C_DIR=$root/target/staticlib
 fi
 export TEXT_C_DIR

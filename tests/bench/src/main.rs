@@ -1,12 +1,18 @@
 //! Measures the proved library's counts against plain Rust loops, on the same buffers in one run,
-//! and its calls on a note against a plain Rust pass over the same text.
+//! its calls that read a note against a plain Rust pass over the same text, and its edits of a note
+//! against those of the source's rope.
+//!
+//! bench           all of them
+//! bench --edits   the edits alone
 
+mod edit;
 mod note;
 mod ours;
 mod plain;
 
 use std::fmt::Debug;
 use std::hint::black_box;
+use std::process::ExitCode;
 use std::time::{Duration, Instant};
 
 const SIZE: usize = 240 * 1024;
@@ -22,12 +28,39 @@ const JAPANESE: &str = "朝の港には霧が出ていて、船はまだ来な�
     ノートに一行だけ書いて、もう一度読みなおした。\r\n\
     「忘れないうちに」と彼女は言った。\n\n";
 
-fn main() {
+const TEXTS: [(&str, &str); 2] = [("ASCII", ENGLISH), ("Japanese", JAPANESE)];
+
+fn main() -> ExitCode {
+    let words: Vec<String> = std::env::args().skip(1).collect();
+    let words: Vec<&str> = words.iter().map(String::as_str).collect();
+    match words[..] {
+        [] => {
+            reads();
+            println!();
+            edits();
+        }
+        ["--edits"] => edits(),
+        _ => {
+            eprintln!("bench [--edits]");
+            return ExitCode::from(2);
+        }
+    }
+    ExitCode::SUCCESS
+}
+
+fn edits() {
+    edit::heading();
+    for (name, passage) in TEXTS {
+        edit::measure(name, &fill(passage));
+    }
+}
+
+fn reads() {
     println!(
         "{:<9} {:<19} {:>10} {:>10} {:>12}",
         "text", "count", "ours MB/s", "Rust MB/s", "ours / Rust"
     );
-    for (name, passage) in [("ASCII", ENGLISH), ("Japanese", JAPANESE)] {
+    for (name, passage) in TEXTS {
         let text = fill(passage);
         let text = text.as_bytes();
         measure(name, "chars", text, ours::count_chars, plain::count_chars);
@@ -69,7 +102,7 @@ fn main() {
     }
     println!();
     note::heading();
-    for (name, passage) in [("ASCII", ENGLISH), ("Japanese", JAPANESE)] {
+    for (name, passage) in TEXTS {
         note::measure(name, &fill(passage));
     }
 }

@@ -1,5 +1,5 @@
 //! New: opens the crate's child lists to the tests, with children of both kinds. No logic of its
-//! own. tests/compare.sh lays this file beside the oracle's probe.rs.
+//! own. tests/oracle.sh lays this file beside the oracle's probe.rs.
 use crate::tree::{Node, NodeChildren, NodeText, TextInfo};
 use std::sync::Arc;
 

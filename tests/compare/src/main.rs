@@ -2,10 +2,12 @@
 //!
 //! compare                     the full run
 //! compare --short             the same groups, of smaller extent
+//! compare --edits [--short]   the edits of a note alone
 //! compare --record FILE       writes a sample of the source's answers on texts and leaves
 //! compare --record-lists FILE writes a sample of its answers on child lists
 
 mod calls;
+mod edit;
 mod groups;
 mod leaf;
 mod list;
@@ -56,6 +58,14 @@ const FULL_NOTE: note::Extent = note::Extent {
     asked: 400,
 };
 
+const FULL_EDITS: [edit::Row; 5] = [
+    edits_of(17, 100, 2_500),
+    edits_of(18, 100, 2_500),
+    edits_of(80, 340, 2_000),
+    edits_of(300, 20, 2_000),
+    edits_of(4_096, 6, 2_200),
+];
+
 const SHORT: Extent = Extent {
     byte_string: 4,
     char_string: 4,
@@ -90,16 +100,32 @@ const SHORT_NOTE: note::Extent = note::Extent {
     asked: 40,
 };
 
+const SHORT_EDITS: [edit::Row; 5] = [
+    edits_of(17, 2, 600),
+    edits_of(18, 2, 600),
+    edits_of(80, 6, 800),
+    edits_of(300, 2, 400),
+    edits_of(4_096, 2, 100),
+];
+
+const fn edits_of(n: usize, notes: usize, edits: usize) -> edit::Row {
+    edit::Row { n, notes, edits }
+}
+
 fn main() -> ExitCode {
     let words: Vec<String> = std::env::args().skip(1).collect();
     let words: Vec<&str> = words.iter().map(String::as_str).collect();
     match words[..] {
-        [] => compare(&FULL, &FULL_LEAF, &FULL_LIST, &FULL_NOTE),
-        ["--short"] => compare(&SHORT, &SHORT_LEAF, &SHORT_LIST, &SHORT_NOTE),
+        [] => compare(&FULL, &FULL_LEAF, &FULL_LIST, &FULL_NOTE, &FULL_EDITS),
+        ["--short"] => compare(&SHORT, &SHORT_LEAF, &SHORT_LIST, &SHORT_NOTE, &SHORT_EDITS),
+        ["--edits"] => compare_edits(&FULL_EDITS),
+        ["--edits", "--short"] => compare_edits(&SHORT_EDITS),
         ["--record", path] => recorded(path, record::write(path)),
         ["--record-lists", path] => recorded(path, record::write_lists(path)),
         _ => {
-            eprintln!("compare [--short | --record FILE | --record-lists FILE]");
+            eprintln!(
+                "compare [--short | --edits [--short] | --record FILE | --record-lists FILE]"
+            );
             ExitCode::from(2)
         }
     }
@@ -120,12 +146,24 @@ fn compare(
     of_leaves: &leaf::Extent,
     of_lists: &list::Extent,
     of_notes: &note::Extent,
+    of_edits: &[edit::Row],
 ) -> ExitCode {
     let mut totals = tally::Totals::default();
     groups::run(extent, &mut totals);
     leaf::run(of_leaves, &mut totals);
     list::run(of_lists, &mut totals);
     note::run(of_notes, &mut totals);
+    edit::run(of_edits, &mut totals);
+    closed(&totals)
+}
+
+fn compare_edits(rows: &[edit::Row]) -> ExitCode {
+    let mut totals = tally::Totals::default();
+    edit::run(rows, &mut totals);
+    closed(&totals)
+}
+
+fn closed(totals: &tally::Totals) -> ExitCode {
     if totals.close() {
         ExitCode::SUCCESS
     } else {

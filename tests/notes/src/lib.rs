@@ -3,6 +3,7 @@
 
 pub mod asks;
 pub mod build;
+pub mod edits;
 pub mod formed;
 pub mod lent;
 pub mod memory;

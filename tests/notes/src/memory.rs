@@ -139,6 +139,13 @@ pub fn entry(kid: &Kid) -> [u8; ENTRY] {
     entry
 }
 
+/// Drops every mark.
+pub fn drop_marks(memory: &mut [u8]) {
+    for mark in memory[MARKS..HEAD].chunks_mut(MARK) {
+        mark[0] = 0;
+    }
+}
+
 /// Writes a leaf: its head, and its text at the front of the region.
 pub fn put_leaf(memory: &mut [u8], slot: usize, text: &[u8]) {
     put_head(memory, slot, LEAF, text.len());

@@ -42,6 +42,10 @@ pub fn open(memory: &mut [u8], n: usize) -> u8 {
     unsafe { wol_note_open(memory.as_mut_ptr(), memory.len(), n) }
 }
 
+pub fn check(memory: &[u8]) -> bool {
+    unsafe { wol_note_check(memory.as_ptr(), memory.len()) }
+}
+
 /// The call of any number that answers one: the refusal or 0, and the number.
 pub fn read(call: u8, memory: &[u8], index: usize) -> (u8, u64) {
     let mut number = UNTOUCHED;
@@ -62,7 +66,7 @@ pub fn ask(memory: &[u8], ask: &Ask) -> (Answer, Duration) {
     answer.refusal = unsafe {
         match *ask {
             Ask::Check => {
-                number = u64::from(wol_note_check(at, len));
+                number = u64::from(check(memory));
                 0
             }
             Ask::Read(call, index) => wol_note_read(call as u8, at, len, index, &mut number),

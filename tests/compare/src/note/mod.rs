@@ -1,7 +1,7 @@
 //! The comparison of the calls that read a note in a lent memory.
 
 mod groups;
-mod source;
+pub mod source;
 mod tally;
 
 pub use groups::{run, Extent};

@@ -1,9 +1,12 @@
 //! Asks the calls of a memory and counts what comes.
 
-use std::time::Duration;
+use std::fmt::Debug;
+use std::time::{Duration, Instant};
 
 use notes::asks::{self, Ask, CONVERSIONS, TOTALS};
+use notes::edits::{self, Edit};
 use notes::formed;
+use notes::lent::Lent;
 use notes::ours;
 use notes::texts::Random;
 
@@ -54,7 +57,7 @@ impl Tally {
         self.differences == 0
     }
 
-    /// Asks a memory: the check always; of a note every call, else some.
+    /// Asks a memory: the check always; of a note every call that reads, else some and an edit.
     pub fn hold(&mut self, random: &mut Random, memory: &[u8], what: &dyn Fn() -> String) {
         self.before.clear();
         self.before.extend_from_slice(memory);
@@ -91,7 +94,7 @@ impl Tally {
             let due = asks::due(note.as_ref(), &ask);
             let (ours, took) = ours::ask(memory, &ask);
             self.asks += 1;
-            self.in_time(memory, &ask, took, what);
+            self.in_time(&ask, took, &mut || ours::ask(memory, &ask).1, what);
             if ours != due {
                 self.differ(&format!("{ask:?}: ours {ours:?}, due {due:?}"), what);
             }
@@ -99,13 +102,52 @@ impl Tally {
         if memory != &self.before[..] {
             self.differ("a call has changed the memory", what);
         }
+        if note.is_none() {
+            let edit = if random.below(2) == 0 {
+                Edit::Insert {
+                    place: start,
+                    piece: piece.into(),
+                }
+            } else {
+                let end = start + random.below(40);
+                Edit::Remove { start, end }
+            };
+            self.hold_edit(memory, &edit, what);
+        }
     }
 
-    fn in_time(&mut self, memory: &[u8], ask: &Ask, took: Duration, what: &dyn Fn() -> String) {
+    /// An edit of a memory that is not well formed: refused by 2, and no byte is changed.
+    fn hold_edit(&mut self, memory: &[u8], edit: &Edit, what: &dyn Fn() -> String) {
+        let mut copy = Lent::new(memory);
+        let began = Instant::now();
+        let ours = edits::edit(&mut copy, edit);
+        let took = began.elapsed();
+        self.asks += 1;
+        if ours != (2, edits::UNTOUCHED) {
+            self.differ(&format!("{edit:?}: ours {ours:?}, due refusal 2"), what);
+        }
+        if copy[..] != *memory {
+            self.differ(&format!("{edit:?} has changed the memory"), what);
+        }
+        let mut again = || {
+            let began = Instant::now();
+            edits::edit(&mut copy, edit);
+            began.elapsed()
+        };
+        self.in_time(edit, took, &mut again, what);
+    }
+
+    fn in_time(
+        &mut self,
+        ask: &dyn Debug,
+        took: Duration,
+        again: &mut dyn FnMut() -> Duration,
+        what: &dyn Fn() -> String,
+    ) {
         let mut took = took;
         for _ in 0..10 {
             if took > SLOW {
-                took = took.min(ours::ask(memory, ask).1);
+                took = took.min(again());
             }
         }
         self.longest = self.longest.max(took);

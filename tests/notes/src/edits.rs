@@ -1,0 +1,72 @@
+//! The calls that edit a note, and which refusal is due of them by document 01.
+
+use std::fmt;
+
+use crate::memory;
+
+extern "C" {
+    fn wol_note_insert(
+        memory: *mut u8,
+        len: usize,
+        place: usize,
+        piece: *const u8,
+        piece_len: usize,
+        change: &mut i64,
+    ) -> u8;
+    fn wol_note_remove(
+        memory: *mut u8,
+        len: usize,
+        start: usize,
+        end: usize,
+        change: &mut i64,
+    ) -> u8;
+}
+
+#[derive(Clone)]
+pub enum Edit {
+    Insert { place: usize, piece: Vec<u8> },
+    Remove { start: usize, end: usize },
+}
+
+impl fmt::Debug for Edit {
+    fn fmt(&self, f: &mut fmt::Formatter) -> fmt::Result {
+        match self {
+            Edit::Insert { place, piece } => {
+                write!(f, "insertion of {piece:02X?} at {place}")
+            }
+            Edit::Remove { start, end } => write!(f, "removal of {start}..{end}"),
+        }
+    }
+}
+
+/// What is in the change if none is written.
+pub const UNTOUCHED: i64 = i64::MIN;
+
+/// The refusal or 0, and the change of the number of lines.
+pub fn edit(memory: &mut [u8], edit: &Edit) -> (u8, i64) {
+    let (at, len) = (memory.as_mut_ptr(), memory.len());
+    let mut change = UNTOUCHED;
+    // Sound: each pointer goes with the length of its own slice.
+    let refusal = unsafe {
+        match edit {
+            Edit::Insert { place, piece } => {
+                wol_note_insert(at, len, *place, piece.as_ptr(), piece.len(), &mut change)
+            }
+            Edit::Remove { start, end } => wol_note_remove(at, len, *start, *end, &mut change),
+        }
+    };
+    (refusal, change)
+}
+
+/// The refusal that is due of a well-formed memory of n slots, whose note has so many bytes and
+/// chars.
+pub fn due(edit: &Edit, n: usize, bytes: usize, chars: usize) -> Option<u8> {
+    match edit {
+        Edit::Insert { place, .. } if *place > chars => Some(3),
+        Edit::Insert { piece, .. } if piece.len() > 256 => Some(4),
+        Edit::Insert { piece, .. } if std::str::from_utf8(piece).is_err() => Some(5),
+        Edit::Insert { piece, .. } if bytes + piece.len() > memory::limit(n) => Some(6),
+        Edit::Remove { start, end } if start > end || *end > chars => Some(3),
+        _ => None,
+    }
+}
