@@ -36,6 +36,7 @@ use Rattle.became.specs.Grown.{MadeIs}
 use Rattle.leaf_step.proofs.Laws.{Editable, step-made}
 use Rattle.rise.proofs.Rising.{Rising}
 use Rattle.rise.proofs.Rises.{rise-makes}
+use Rattle.descent.specs.declared.Part.the-variants.{Bytes}
 use Rattle.descent.specs.Descent.{risenAfter, editedAt}
 use Rattle.descent.proofs.Around.{inner-left, inner-right, outer-left, outer-right, all-text, each-filled}
 
@@ -68,7 +69,7 @@ pub record Fitting (m : List ℕ) (leaf i e : ℕ) (piece before after : List �
 pub record Descends (m : List ℕ) (n h s : ℕ) (by : Measure) (at i e : ℕ) (piece t : List ℕ) : Type 0 where
   pub made : Made
   pub later : List ℕ
-  pub is : editedAt m h s by at i e piece ≡ (value made, later)
+  pub is : editedAt m h s by at (Bytes i e) piece ≡ (value made, later)
   pub makes : MadeIs m later n (h + 1) (uses m h s) h s t made
   pub some : 0 < h → 1 ≤ length t
 
@@ -212,7 +213,7 @@ module _ (m : List ℕ) (n : ℕ) (by : Measure) (leaf i e : ℕ) (piece : List 
 
     -- the step up, behind the edit of the child
     abbrev onward : ℕ × (ℕ × TextSum) → Act Made
-    onward c = risenAfter (editedAt m g (c .1 .0) by (at - countIn by (c .1 .1)) i e piece) s (c .0)
+    onward c = risenAfter (editedAt m g (c .1 .0) by (at - countIn by (c .1 .1)) (Bytes i e) piece) s (c .0)
 
     up : Descends m n g (w .kid .slot) by (at - countIn by (w .left)) i e piece text → Descends m n (suc g) s by at i e piece (before ++ (new ++ after))
     unfolding editedAt

@@ -1,3 +1,4 @@
+pub mod Inside
 pub mod Rules
 pub mod Around
 pub mod Descends

@@ -1,55 +1,98 @@
--- From the tests of the code to the definition: an edit at a leaf, and one level down.
+-- From the tests of the code to the definitions: an edit of a part of a leaf, and one level down.
 use mathlib.Core.Path.{_≡_, refl, sym, ap, subst, _∙_}
 use mathlib.Core.List.{List}
-use Prim.Native.Nat.{ℕ, zero, suc, _-_, _<_}
+use Prim.Native.Nat.{ℕ, zero, suc, _-_, _≤_, _<_}
 use native.Mathlib.Omega.{arith}
-use Rattle.plain.specs.Outcome.{Outcome}
+use lib.ListN.{length}
+use Rattle.plain.specs.Outcome.{Outcome, Outcome.value, Outcome.refused}
 use Rattle.answer.specs.declared.Refusal.{Refusal}
+use Rattle.answer.specs.declared.Refusal.the-variants.{Side}
 use Rattle.text_info.specs.declared.TextSum.{TextSum}
 use Rattle.child_search.specs.declared.Measure.{Measure}
 use Rattle.tree_search.specs.declared.Branch.{Branch}
 use Rattle.tree_search.specs.declared.Branch.the-variants as Branch·case
 use Rattle.tree_search.specs.Search.{branch, countIn, branchAt}
+use Rattle.leaf_parts.specs.Parts.{leafText, byteIn}
 use Rattle.edits.specs.declared.Edit.{Edit}
 use Rattle.edits.specs.declared.Edit.the-variants as Edit·case
 use Rattle.edits.specs.Made.{Made, edit, Stepped}
-use Rattle.edits.specs.Acts.{Act, reading, Did}
+use Rattle.edits.specs.Acts.{Act, settled, reading, Did}
 use Rattle.leaf_step.specs.Steps.{leafStepped}
 use Rattle.rise.specs.Rise.{risenBy}
-use Rattle.descent.specs.Descent.{risenAfter, editedAt}
+use Rattle.descent.specs.declared.Part.{Part}
+use Rattle.descent.specs.declared.Part.the-variants as Part·case
+use Rattle.descent.specs.Descent.{spanInside, insidePart, leafPart, risenAfter, editedAt}
+use Rattle.descent.proofs.Inside.{span-low, span-end, span-is}
 
-module _ (m : List ℕ) (h s : ℕ) (by : Measure) (at i e : ℕ) (piece : List ℕ) where
-  pub at-leaf : (r : Edit) (after : List ℕ) → h ≡ 0 → Stepped (leafStepped m s i e piece) m r after → Did edit (editedAt m h s by at i e piece) r after
+-- ── a part of a leaf ──
+
+module _ (m : List ℕ) (s at k : ℕ) (piece : List ℕ) where
+  abbrev stepped : ℕ × ℕ → Act Made
+  stepped b = settled m (leafStepped m s (b .0) (b .1) piece)
+
+  inside-by : (o : Outcome (ℕ × ℕ)) → spanInside (leafText m s) at k ≡ o → reading m o stepped ≡ insidePart m s at k piece
+  unfolding insidePart
+  inside-by o e = ap (λ (x : Outcome (ℕ × ℕ)). reading m x stepped) (sym e)
+
+  no-part : spanInside (leafText m s) at k ≡ refused 12 → Did edit (insidePart m s at k piece) (Edit·case.Refused Side) m
+  no-part e = subst (λ (a : Act Made). Did edit a (Edit·case.Refused Side) m) (inside-by (refused 12) e) (record { answered = refl; memory = refl })
+
+  pub none-before : at ≤ k → Did edit (insidePart m s at k piece) (Edit·case.Refused Side) m
+  none-before h = no-part (span-low (leafText m s) at k h)
+
+  module _ (more : k < at) (text : List ℕ) (is : text ≡ leafText m s) (e : ℕ) (end : e ≡ byteIn text at) where
+    pub none-behind : length text ≤ e → Did edit (insidePart m s at k piece) (Edit·case.Refused Side) m
+    none-behind h = no-part (ap (λ (t : List ℕ). spanInside t at k) (sym is) ∙ span-end text at k more (omega (arith, end)))
+
+    pub some-inside : e < length text → (i : ℕ) → i ≡ byteIn text (at - k) → (r : Edit) (after : List ℕ) → Stepped (leafStepped m s i e piece) m r after
+        → Did edit (insidePart m s at k piece) r after
+    some-inside h i start r after p =
+        let z : spanInside (leafText m s) at k ≡ value (i, e)
+        = ap (λ (t : List ℕ). spanInside t at k) (sym is) ∙ span-is text at k more (omega (arith, end))
+        ∙ ap (λ (x : ℕ). value (x, byteIn text at)) (sym start) ∙ ap (λ (x : ℕ). value (i, x)) (sym end) in
+        subst (λ (a : Act Made). Did edit a r after) (inside-by (value (i, e)) z) (record { answered = p .answered; memory = p .memory })
+
+module _ (m : List ℕ) (s at : ℕ) (part : Part) (piece : List ℕ) (r : Edit) (after : List ℕ) where
+  pub part-bytes : (i e : ℕ) → part ≡ Part·case.Bytes i e → Stepped (leafStepped m s i e piece) m r after → Did edit (leafPart m s at part piece) r after
+  part-bytes i e z p = subst (λ (x : Part). Did edit (leafPart m s at x piece) r after) (sym z) (record { answered = p .answered; memory = p .memory })
+
+  pub part-inside : (k : ℕ) → part ≡ Part·case.Inside k → Did edit (insidePart m s at k piece) r after → Did edit (leafPart m s at part piece) r after
+  part-inside k z d = subst (λ (x : Part). Did edit (leafPart m s at x piece) r after) (sym z) d
+
+-- ── one level down ──
+
+module _ (m : List ℕ) (h s : ℕ) (by : Measure) (at : ℕ) (part : Part) (piece : List ℕ) where
+  pub at-leaf : (r : Edit) (after : List ℕ) → h ≡ 0 → Did edit (leafPart m s at part piece) r after → Did edit (editedAt m h s by at part piece) r after
   unfolding editedAt
-  at-leaf r after z p = rw z (record { answered = p .answered; memory = p .memory })
+  at-leaf r after z d = rw z d
 
   -- an edit of the child that was found, and the step up
   abbrev pub onChild : ℕ × (ℕ × TextSum) → Act Made
-  onChild c = risenAfter (editedAt m (h - 1) (c .1 .0) by (at - countIn by (c .1 .1)) i e piece) s (c .0)
+  onChild c = risenAfter (editedAt m (h - 1) (c .1 .0) by (at - countIn by (c .1 .1)) part piece) s (c .0)
 
-module _ (m : List ℕ) (s : ℕ) (by : Measure) (at i e : ℕ) (piece : List ℕ) where
-  in-list : (h : ℕ) → 0 < h → reading m (branchAt m s by at) (onChild m h s by at i e piece) ≡ editedAt m h s by at i e piece
+module _ (m : List ℕ) (s : ℕ) (by : Measure) (at : ℕ) (part : Part) (piece : List ℕ) where
+  in-list : (h : ℕ) → 0 < h → reading m (branchAt m s by at) (onChild m h s by at part piece) ≡ editedAt m h s by at part piece
   unfolding editedAt
   in-list zero g = absurd (omega arith)
   in-list (suc h) g =
       let z : suc h - 1 ≡ h = omega arith in
-      ap (λ (x : ℕ). reading m (branchAt m s by at) (λ c. risenAfter (editedAt m x (c .1 .0) by (at - countIn by (c .1 .1)) i e piece) s (c .0))) z
+      ap (λ (x : ℕ). reading m (branchAt m s by at) (λ c. risenAfter (editedAt m x (c .1 .0) by (at - countIn by (c .1 .1)) part piece) s (c .0))) z
 
   module _ (h : ℕ) (some : 0 < h) (b : Branch) (promise : branch b ≡ branchAt m s by at) where
-    next : reading m (branch b) (onChild m h s by at i e piece) ≡ editedAt m h s by at i e piece
-    next = ap (λ (o : Outcome (ℕ × (ℕ × TextSum))). reading m o (onChild m h s by at i e piece)) promise ∙ in-list h some
+    next : reading m (branch b) (onChild m h s by at part piece) ≡ editedAt m h s by at part piece
+    next = ap (λ (o : Outcome (ℕ × (ℕ × TextSum))). reading m o (onChild m h s by at part piece)) promise ∙ in-list h some
 
-    pub no-child : (q : Refusal) (after : List ℕ) → b ≡ Branch·case.Refused q → after ≡ m → Did edit (editedAt m h s by at i e piece) (Edit·case.Refused q) after
+    pub no-child : (q : Refusal) (after : List ℕ) → b ≡ Branch·case.Refused q → after ≡ m → Did edit (editedAt m h s by at part piece) (Edit·case.Refused q) after
     no-child q after z k =
-        subst (λ (o : Act Made). Did edit o (Edit·case.Refused q) after) (ap (λ (x : Branch). reading m (branch x) (onChild m h s by at i e piece)) (sym z) ∙ next)
+        subst (λ (o : Act Made). Did edit o (Edit·case.Refused q) after) (ap (λ (x : Branch). reading m (branch x) (onChild m h s by at part piece)) (sym z) ∙ next)
         (record { answered = refl; memory = k })
 
     pub in-child : (j k : ℕ) (left : TextSum) → b ≡ Branch·case.At j k left → (rest : ℕ) → rest ≡ at - countIn by left
-        → (made : Edit) (l : List ℕ) → Did edit (editedAt m (h - 1) k by rest i e piece) made l
-        → (r : Edit) (after : List ℕ) → Did edit (risenBy l s j (edit made)) r after → Did edit (editedAt m h s by at i e piece) r after
+        → (made : Edit) (l : List ℕ) → Did edit (editedAt m (h - 1) k by rest part piece) made l
+        → (r : Edit) (after : List ℕ) → Did edit (risenBy l s j (edit made)) r after → Did edit (editedAt m h s by at part piece) r after
     in-child j k left z rest q made l d r after done =
-        let o = editedAt m (h - 1) k by rest i e piece in
+        let o = editedAt m (h - 1) k by rest part piece in
         let up : risenBy l s j (edit made) ≡ risenAfter o s j
         = ap (λ (x : List ℕ). risenBy x s j (edit made)) (d .memory) ∙ ap (risenBy (o .1) s j) (d .answered) in
-        let down : risenAfter o s j ≡ onChild m h s by at i e piece (j, (k, left)) = ap (λ (x : ℕ). risenAfter (editedAt m (h - 1) k by x i e piece) s j) q in
-        subst (λ (a : Act Made). Did edit a r after) (up ∙ down ∙ ap (λ (x : Branch). reading m (branch x) (onChild m h s by at i e piece)) (sym z) ∙ next) done
+        let down : risenAfter o s j ≡ onChild m h s by at part piece (j, (k, left)) = ap (λ (x : ℕ). risenAfter (editedAt m (h - 1) k by x part piece) s j) q in
+        subst (λ (a : Act Made). Did edit a r after) (up ∙ down ∙ ap (λ (x : Branch). reading m (branch x) (onChild m h s by at part piece)) (sym z) ∙ next) done

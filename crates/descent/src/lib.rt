@@ -1,6 +1,9 @@
 // An edit of the leaf that a search finds, one level down at each step, and what became of it told up again.
+use answer::Refusal;
 use child_search::Measure;
 use edits::Edit;
+use leaf_parts::byte_in;
+use leaf_parts::text_at;
 use leaf_step::leaf_step;
 use rise::rise;
 use tree_search::Branch;
@@ -8,28 +11,60 @@ use tree_search::child_at;
 use tree_search::rest;
 ghost use Rattle.edits.specs.Made.{edit};
 ghost use Rattle.edits.specs.Acts.{Did};
-ghost use Rattle.descent.specs.Descent.{editedAt};
+ghost use Rattle.descent.specs.Descent.{insidePart, leafPart, editedAt};
 
-// The bytes [start, end) of the leaf's text give way to a piece.
+// Which part of a leaf's text gives way to the piece: bytes of it; or so many chars before the place that was sought, refused by 12 unless
+// chars of the leaf stay before them and behind them.
+pub enum Part {
+    Bytes(usize, usize),
+    Inside(usize),
+}
+
+// k chars inside a leaf give way to a piece; the last of them ends at its char `at`.
+fn edit_inside(m: &mut [u8], slot: usize, at: usize, k: usize, piece: &[u8]) -> Edit
+    ensures { λ r. ⌜ Did edit (insidePart (now (m .entry)) slot at k (now (piece .entry))) r (now (m .exit)) ⌝ }
+{
+    if at <= k {
+        return Edit::Refused(Refusal::Side);
+    }
+    let text = text_at(m, slot);
+    let end = byte_in(text, at);
+    if text.len() <= end {
+        return Edit::Refused(Refusal::Side);
+    }
+    let start = byte_in(text, at - k);
+    leaf_step(m, slot, start, end, piece)
+}
+
+// A part of a leaf gives way to a piece.
+fn edit_part(m: &mut [u8], slot: usize, at: usize, part: Part, piece: &[u8]) -> Edit
+    ensures { λ r. ⌜ Did edit (leafPart (now (m .entry)) slot at part (now (piece .entry))) r (now (m .exit)) ⌝ }
+{
+    match part {
+        Part::Bytes(start, end) => leaf_step(m, slot, start, end, piece),
+        Part::Inside(k) => edit_inside(m, slot, at, k, piece),
+    }
+}
+
+// A part of the leaf that a search finds gives way to a piece.
 pub fn edit_at(
     m: &mut [u8],
     level: u8,
     slot: usize,
     by: Measure,
     at: usize,
-    start: usize,
-    end: usize,
+    part: Part,
     piece: &[u8],
 ) -> Edit
-    ensures { λ r. ⌜ Did edit (editedAt (now (m .entry)) level slot by at start end (now (piece .entry))) r (now (m .exit)) ⌝ }
+    ensures { λ r. ⌜ Did edit (editedAt (now (m .entry)) level slot by at part (now (piece .entry))) r (now (m .exit)) ⌝ }
 {
     if level == 0 {
-        return leaf_step(m, slot, start, end, piece);
+        return edit_part(m, slot, at, part, piece);
     }
     match child_at(m, slot, by, at) {
         Branch::Refused(r) => Edit::Refused(r),
         Branch::At(idx, kid, left) => {
-            let made = edit_at(m, level - 1, kid, by, rest(by, at, left), start, end, piece);
+            let made = edit_at(m, level - 1, kid, by, rest(by, at, left), part, piece);
             rise(m, slot, idx, made)
         }
     }

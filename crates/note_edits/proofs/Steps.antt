@@ -1,31 +1,37 @@
--- The two calls of the crate splices on a memory that holds a note: a piece put in where its side asks, and some chars before a place taken out.
+-- The calls of the crate splices on a memory that holds a note: a piece put in where its side asks, chars that give way to a piece inside one leaf,
+-- and some chars before a place taken out.
 use mathlib.Core.Path.{_≡_, refl, sym, ap, subst, _∙_}
 use mathlib.Core.Bool.{Bool, true, false, cond}
 use mathlib.Core.List.{List, [], _∷_}
+use mathlib.Core.Logic.{_⊎_, ⊎-elim}
 use Prim.Native.Nat.{ℕ, _-_, _≤_, _<_}
 use native.Mathlib.Omega.{arith}
 use lib.ListN.{length, take, take-append-drop}
 use Rattle.plain.specs.Utf8.{decode}
 use Rattle.plain.specs.Count.{crLast}
-use Rattle.plain.specs.Edit.{putIn, cutOut}
+use Rattle.plain.specs.Edit.{replaced, putIn, cutOut}
 use Rattle.plain.specs.Outcome.{Outcome.value, Outcome.refused}
 use Rattle.answer.specs.Answers.{refusalNumber, number, verdict}
 use Rattle.answer.specs.declared.Refusal.{Refusal}
 use Rattle.answer.specs.declared.Number.{Number}
 use Rattle.answer.specs.declared.Number.the-variants as Number·case
 use Rattle.answer.specs.declared.Verdict.{Verdict}
+use Rattle.answer.specs.declared.Verdict.the-variants as Verdict·case
 use Rattle.child_search.specs.declared.Measure.{Measure}
 use Rattle.child_search.specs.declared.Measure.the-variants.{Chars, CharEnds}
+use Rattle.tree.proofs.Counts.{valid-nil}
 use Rattle.note_head.specs.Head.{nOf}
 use Rattle.memory.specs.Formed.{noteBytes}
 use Rattle.edits.specs.Acts.{Act, Did}
-use Rattle.splices.specs.Splices.{putAt, cutAt}
+use Rattle.splices.specs.Splices.{insideAt, putAt, cutAt}
 use Rattle.splice_laws.proofs.Put.{Sided, put-held}
 use Rattle.splice_laws.proofs.Cut.{CutHeld, cut-held}
-use Rattle.edited.specs.Turned.{textIn, Turned, Puts, Cuts}
+use Rattle.splice_laws.proofs.Within.{inside-held}
+use Rattle.edited.specs.Turned.{textIn, Turned, Puts, Cuts, Removes}
 use Rattle.edited.proofs.Lent.{turned}
 use Rattle.edited.proofs.Removal.{turned-same, cut-on, cut-further}
 use Rattle.note_edits.specs.Side.{sideOf}
+use Rattle.note_edits.specs.Tried.{Tried}
 
 -- the side, by the answer of `behind_cr`
 pub side-is : (cs : List ℕ) (p : ℕ) (t : Bool) → t ≡ crLast (take p cs) → cond t CharEnds Chars ≡ sideOf cs p
@@ -62,6 +68,50 @@ module _ (m : List ℕ) (p : ℕ) (piece : List ℕ) (w : Puts m p piece) where
       let o = put-held m (nOf m) (noteBytes m) (w .holds) p piece (w .valid) (w .short) (w .room) by (subst (λ (b : Measure). Sided b (textIn m) p) (sym e) (sided (textIn m) p)) (w .here) in
       let z : after ≡ o .later = d .memory ∙ ap (λ (x : Act (Unit {0})). x .1) (o .is) in
       subst (Turned m (putIn p (decode piece) (textIn m))) (sym z) (turned m (o .later) (nOf m) (o .new) (putIn p (decode piece) (textIn m)) (o .held) (o .chars) (o .kept))
+
+-- ── chars that give way to a piece inside one leaf ──
+
+module _ (m : List ℕ) (p k : ℕ) (piece : List ℕ) (w : Puts m p piece) (way : (piece ≡ []) ⊎ (k ≡ 0)) (r : Verdict) (after : List ℕ)
+    (d : Did verdict (insideAt m p k piece) r after) where
+  by-law : {X : Type 0} → (verdict r ≡ refused 12 → after ≡ m → X) → (verdict r ≡ value tt → Turned m (replaced (p - k) p (decode piece) (textIn m)) after → X) → X
+  by-law f g =
+      ⊎-elim (λ e. f (d .answered ∙ ap (λ (x : Act (Unit {0})). x .0) e) (d .memory ∙ ap (λ (x : Act (Unit {0})). x .1) e))
+      (λ o. let z : after ≡ o .later = d .memory ∙ ap (λ (x : Act (Unit {0})). x .1) (o .is) in
+      g (d .answered ∙ ap (λ (x : Act (Unit {0})). x .0) (o .is))
+      (subst (Turned m (replaced (p - k) p (decode piece) (textIn m))) (sym z)
+      (turned m (o .later) (nOf m) (o .new) (replaced (p - k) p (decode piece) (textIn m)) (o .held) (o .chars) (o .kept))))
+      (inside-held m (nOf m) (noteBytes m) (w .holds) p k piece (w .valid) (w .short) way (w .room) (w .here))
+
+  pub inside-not : (q : Refusal) → r ≡ Verdict·case.Refused q → after ≡ m
+  inside-not q e = by-law (λ a s. s) (λ a t. absurd (let z : refused (refusalNumber q) ≡ value tt = sym (ap verdict e) ∙ a in let y : _≡_ {A = ℕ} 0 1 = cc in omega arith))
+
+  pub inside-done : r ≡ Verdict·case.Accepted → Turned m (replaced (p - k) p (decode piece) (textIn m)) after
+  inside-done e = by-law (λ a s. absurd (let z : value tt ≡ refused 12 = sym (ap verdict e) ∙ a in let y : _≡_ {A = ℕ} 0 1 = cc in omega arith)) (λ a t. t)
+
+-- what the answer says of it
+module _ (m cs : List ℕ) (t : Bool) (after : List ℕ) (p : Tried m cs t after) where
+  pub was-done : t ≡ true → Turned m cs after
+  was-done e = subst (λ (x : Bool). Tried m cs x after) e p
+
+  pub was-not : t ≡ false → after ≡ m
+  was-not e = subst (λ (x : Bool). Tried m cs x after) e p
+
+-- as an insertion, and as a removal
+pub inside-put : (m : List ℕ) (p : ℕ) (piece after : List ℕ) → Turned m (replaced (p - 0) p (decode piece) (textIn m)) after → Turned m (putIn p (decode piece) (textIn m)) after
+inside-put m p piece after t = let z : p - 0 ≡ p = omega arith in subst (λ (x : ℕ). Turned m (replaced x p (decode piece) (textIn m)) after) z t
+
+pub inside-cut : (m : List ℕ) (s e : ℕ) → s ≤ e → (after : List ℕ) → Turned m (replaced (e - (e - s)) e (decode []) (textIn m)) after → Turned m (cutOut s e (textIn m)) after
+inside-cut m s e h after t =
+    let z : e - (e - s) ≡ s = omega arith in
+    subst (λ (l : List ℕ). Turned m (replaced s e l (textIn m)) after) none-decoded (subst (λ (x : ℕ). Turned m (replaced x e (decode []) (textIn m)) after) z t)
+
+-- what a removal asks there
+pub cut-puts : (m : List ℕ) (s e : ℕ) → Removes m s e → Puts m e []
+cut-puts m s e w = record { holds = w .holds; here = w .high; valid = valid-nil; short = omega arith; room = omega (arith, w .room) }
+
+-- where nothing was changed, what then was done to the same memory
+pub turned-again : (m l : List ℕ) → l ≡ m → (f : List ℕ → List ℕ) (after : List ℕ) → Turned l (f (textIn l)) after → Turned m (f (textIn m)) after
+turned-again m l e f after t = subst (λ (x : List ℕ). Turned x (f (textIn x)) after) e t
 
 -- ── chars taken out before a place ──
 

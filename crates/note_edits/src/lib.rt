@@ -10,20 +10,23 @@ use line_change::difference;
 use note_head::root;
 use note_head::slots;
 use splices::put_in;
+use splices::splice_inside;
 use splices::take_out;
 ghost use mathlib.Core.Path.{_≡_};
 ghost use mathlib.Core.List.{[]};
-ghost use Prim.Native.Nat.{_≤_};
+ghost use mathlib.Core.Logic.{_⊎_};
+ghost use Prim.Native.Nat.{_-_, _≤_, _<_};
 ghost use lib.ListN.{length, take, drop};
 ghost use Rattle.plain.specs.Utf8.{decode};
 ghost use Rattle.plain.specs.Count.{crLast, lfFirst};
-ghost use Rattle.plain.specs.Edit.{putIn, cutOut};
+ghost use Rattle.plain.specs.Edit.{replaced, putIn, cutOut};
 ghost use Rattle.plain_note.specs.Edits.{inserted, removed};
 ghost use Rattle.note_head.specs.Head.{rootOf};
 ghost use Rattle.held.specs.Held.{Holds};
 ghost use Rattle.edited.specs.Edited.{Edited};
 ghost use Rattle.edited.specs.Turned.{textIn, Turned, Puts, Cuts, Removes};
 ghost use Rattle.note_edits.specs.Side.{sideOf};
+ghost use Rattle.note_edits.specs.Tried.{Tried};
 
 // The breaks that the head says.
 fn breaks_of(m: &[u8]) -> u32
@@ -72,6 +75,26 @@ fn side(m: &[u8], p: usize) -> Measure
     Measure::Chars
 }
 
+// k chars before a place give way to a piece at once, if they lie inside one leaf: whether they did.
+fn inside(m: &mut [u8], p: usize, k: usize, piece: &[u8]) -> bool
+    requires { ⌜ Puts (now m) p (now piece) × ((now piece ≡ []) ⊎ (k ≡ 0)) ⌝ }
+    ensures { λ r. ⌜ Tried (now (m .entry)) (replaced (p - k) p (decode (now (piece .entry))) (textIn (now (m .entry)))) r (now (m .exit)) ⌝ }
+{
+    match splice_inside(m, p, k, piece) {
+        Verdict::Refused(_) => false,
+        Verdict::Accepted => true,
+    }
+}
+
+// A piece put in where CR and LF around the place decide on the leaf.
+fn insert_beside(m: &mut [u8], p: usize, piece: &[u8])
+    requires { ⌜ Puts (now m) p (now piece) ⌝ }
+    ensures { λ _. ⌜ Turned (now (m .entry)) (putIn p (decode (now (piece .entry))) (textIn (now (m .entry)))) (now (m .exit)) ⌝ }
+{
+    let by = side(m, p);
+    put_in(m, by, p, piece);
+}
+
 // A piece put into the note's part of the memory.
 fn insert_own(m: &mut [u8], p: usize, piece: &[u8])
     requires { ⌜ Puts (now m) p (now piece) ⌝ }
@@ -80,8 +103,10 @@ fn insert_own(m: &mut [u8], p: usize, piece: &[u8])
     if piece.len() == 0 {
         return;
     }
-    let by = side(m, p);
-    put_in(m, by, p, piece);
+    if inside(m, p, 0, piece) {
+        return;
+    }
+    insert_beside(m, p, piece);
 }
 
 // A piece put in at a place: how many lines more the note has.
@@ -114,14 +139,11 @@ fn cut(m: &mut [u8], s: usize, e: usize)
     }
 }
 
-// [s, e) taken out of it. Where an LF follows, a CR stands before that meanwhile; it stays where a CR lies before s, in the place of that one.
-fn remove_own(m: &mut [u8], s: usize, e: usize)
-    requires { ⌜ Removes (now m) s e ⌝ }
-    ensures { λ _. ⌜ Turned (now (m .entry)) (cutOut s e (textIn (now (m .entry)))) (now (m .exit)) × (s ≡ e → now (m .exit) ≡ now (m .entry)) ⌝ }
+// [s, e) taken out leaf by leaf. Where an LF follows, a CR stands before that meanwhile; it stays where a CR lies before s, in the place of that one.
+fn remove_over(m: &mut [u8], s: usize, e: usize)
+    requires { ⌜ Removes (now m) s e × (s < e) ⌝ }
+    ensures { λ _. ⌜ Turned (now (m .entry)) (cutOut s e (textIn (now (m .entry)))) (now (m .exit)) ⌝ }
 {
-    if s == e {
-        return;
-    }
     if !at_lf(m, e) {
         cut(m, s, e);
         return;
@@ -134,6 +156,21 @@ fn remove_own(m: &mut [u8], s: usize, e: usize)
     }
     cut(m, s, e);
     cut(m, s, s + 1);
+}
+
+// [s, e) taken out of the note's part of the memory.
+fn remove_own(m: &mut [u8], s: usize, e: usize)
+    requires { ⌜ Removes (now m) s e ⌝ }
+    ensures { λ _. ⌜ Turned (now (m .entry)) (cutOut s e (textIn (now (m .entry)))) (now (m .exit)) × (s ≡ e → now (m .exit) ≡ now (m .entry)) ⌝ }
+{
+    if s == e {
+        return;
+    }
+    let empty: [u8; 1] = [0; 1];
+    if inside(m, e, e - s, &empty[..0]) {
+        return;
+    }
+    remove_over(m, s, e);
 }
 
 // The chars of [s, e) taken out.

@@ -26,6 +26,7 @@ use Rattle.leaf_parts.specs.Parts.{byteIn}
 use Rattle.leaf_parts.proofs.Found.{text-is}
 use Rattle.edits.specs.Acts.{Act, reading, onward}
 use Rattle.held.specs.Held.{Held, Kept}
+use Rattle.descent.specs.declared.Part.the-variants.{Bytes}
 use Rattle.splices.specs.Splices.{spliced, lesser, takenOut, cutAt}
 use Rattle.splice_laws.proofs.Spliced.{splice-held}
 use Rattle.splice_laws.proofs.Texts.{none-decoded, byte-boundary, byte-order, front-bytes, rest-bytes, chars-edited, size-edited}
@@ -59,11 +60,11 @@ module _ (m : List ℕ) (n : ℕ) (t : List ℕ) (note : Held m n t) (at k : ℕ
     old : Seams (r .before) leaf (r .after)
     old = record { front = r .parted .seam-before; back = r .parted .seam-after }
 
-    cut-is : cutAt m at k ≡ onward (spliced m CharEnds at (byteIn leaf (q - lesser k q)) (byteIn leaf q) []) (λ u l. (value (lesser k q), l))
+    cut-is : cutAt m at k ≡ onward (spliced m CharEnds at (Bytes (byteIn leaf (q - lesser k q)) (byteIn leaf q)) []) (λ u l. (value (lesser k q), l))
     unfolding cutAt
     cut-is =
         ap (λ (o : Outcome (ℕ × TextSum)). reading m o (takenOut m at k)) (r .is)
-        ∙ ap (λ (l : List ℕ). onward (spliced m CharEnds at (byteIn l (q - lesser k q)) (byteIn l q) []) (λ u l. (value (lesser k q), l))) (text-is m (r .leaf) (r .parted .is-leaf))
+        ∙ ap (λ (l : List ℕ). onward (spliced m CharEnds at (Bytes (byteIn l (q - lesser k q)) (byteIn l q)) []) (λ u l. (value (lesser k q), l))) (text-is m (r .leaf) (r .parted .is-leaf))
 
     -- c chars of the leaf
     module _ (c : ℕ) (few : c ≤ q) where
@@ -76,10 +77,10 @@ module _ (m : List ℕ) (n : ℕ) (t : List ℕ) (note : Held m n t) (at k : ℕ
       start : length (decode (r .before)) + (q - c) ≡ at - c
       start = omega (arith, in-leaf .is)
 
-      counted : c ≡ lesser k q → (later : List ℕ) → spliced m CharEnds at i j [] ≡ (value tt, later) → cutAt m at k ≡ (value c, later)
+      counted : c ≡ lesser k q → (later : List ℕ) → spliced m CharEnds at (Bytes i j) [] ≡ (value tt, later) → cutAt m at k ≡ (value c, later)
       counted least later e =
           cut-is
-          ∙ ap (λ (x : ℕ). onward (spliced m CharEnds at (byteIn leaf (q - x)) j []) (λ u l. (value x, l))) (sym least)
+          ∙ ap (λ (x : ℕ). onward (spliced m CharEnds at (Bytes (byteIn leaf (q - x)) j) []) (λ u l. (value x, l))) (sym least)
           ∙ ap (λ (a : Act (Unit {0})). onward a (λ u l. (value c, l))) e
 
       -- what meets where they were

@@ -4,3 +4,4 @@ pub mod Places
 pub mod Spliced
 pub mod Put
 pub mod Cut
+pub mod Within

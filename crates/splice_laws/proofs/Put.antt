@@ -24,6 +24,7 @@ use Rattle.leaf_parts.specs.Parts.{byteIn}
 use Rattle.leaf_parts.proofs.Found.{text-is}
 use Rattle.edits.specs.Acts.{reading}
 use Rattle.held.specs.Held.{Held, Kept}
+use Rattle.descent.specs.declared.Part.the-variants as Part·case
 use Rattle.splices.specs.Splices.{spliced, byteAt, inner, putAt}
 use Rattle.splice_laws.proofs.Spliced.{splice-held}
 use Rattle.splice_laws.proofs.Texts.{byte-boundary, take-filled, drop-filled, front-bytes, chars-edited, size-edited}
@@ -71,11 +72,11 @@ module _ (m : List ℕ) (n : ℕ) (t : List ℕ) (note : Held m n t) (p : ℕ) (
     old : Seams (r .before) leaf (r .after)
     old = record { front = r .parted .seam-before; back = r .parted .seam-after }
 
-    put-is : putAt m by p piece ≡ spliced m by p j j piece
+    put-is : putAt m by p piece ≡ spliced m by p (Part·case.Bytes j j) piece
     unfolding putAt
     put-is =
-        ap (λ (o : Outcome (ℕ × TextSum)). reading m o (λ r. spliced m by p (byteAt m r (inner p r)) (byteAt m r (inner p r)) piece)) (r .is)
-        ∙ ap (λ (l : List ℕ). spliced m by p (byteIn l q) (byteIn l q) piece) (text-is m (r .leaf) (r .parted .is-leaf))
+        ap (λ (o : Outcome (ℕ × TextSum)). reading m o (λ r. spliced m by p (Part·case.Bytes (byteAt m r (inner p r)) (byteAt m r (inner p r))) piece)) (r .is)
+        ∙ ap (λ (l : List ℕ). spliced m by p (Part·case.Bytes (byteIn l q) (byteIn l q)) piece) (text-is m (r .leaf) (r .parted .is-leaf))
 
     -- the last char before the place is that of the leaf's front part
     last-char : (e : Bool) → crLast (take p (decode t)) ≡ e → crLast (r .before ++ take j leaf) ≡ e

@@ -10,7 +10,7 @@ use lib.ListN.{length, take, drop, length-append, take-append-drop}
 use borrow.Author.Tests.{ne-eqb}
 use Rattle.plain.specs.Chars.{encodeChar, encode}
 use Rattle.plain.specs.Count.{crLast, lfFirst}
-use Rattle.plain.specs.Edit.{putIn, cutOut}
+use Rattle.plain.specs.Edit.{replaced, putIn, cutOut}
 use Rattle.plain.proofs.Logic.{cut, and-none}
 use Rattle.plain.proofs.Encode.{encode-1}
 use Rattle.plain.proofs.Text.{Laters, shape, lf-encode}
@@ -99,6 +99,16 @@ module _ (b leaf a : List ℕ) (old : Seams b leaf a) where
             let f : lfFirst a ≡ false = sym (ap (λ (t : Bool). t && lfFirst a) (ap crLast (sym all) ∙ e)) ∙ old .back in
             ap (λ (t : Bool). crLast new && t) f ∙ and-none (crLast new)
         go (y ∷ v) z = filled-behind (take j leaf) piece (drop j leaf) (omega (arith, ap length z)) (back-part j)
+
+  -- THEOREM: [i, e) of the leaf gives way to a piece, where some of the leaf stays before it and behind it
+  pub kept-around : (i e : ℕ) (piece : List ℕ) → 1 ≤ length (take i leaf) → 1 ≤ length (drop e leaf) → Seams b (replaced i e piece leaf) a
+  kept-around i e piece n k =
+      record {
+        front =
+            ap (λ (l : List ℕ). crLast b && lfFirst l) (append-assoc (take i leaf) (piece ++ drop e leaf) a)
+            ∙ far-back b (take i leaf) ((piece ++ drop e leaf) ++ a) (λ z. omega (arith, ap length z)) (front-part i);
+        back = filled-behind (take i leaf) piece (drop e leaf) k (back-part e);
+      }
 
   -- THEOREM: [i, e) of the leaf cut out, where what then meets is whole
   pub cut-between : (i e : ℕ) → Whole (b ++ take i leaf) (drop e leaf ++ a) → Seams b (cutOut i e leaf) a

@@ -21,6 +21,7 @@ use Rattle.edits.specs.Made.{Made}
 use Rattle.edits.specs.Acts.{Act}
 use Rattle.held.specs.Held.{Held, Kept}
 use Rattle.held.proofs.Laws.{held-room, held-low, held-once}
+use Rattle.descent.specs.declared.Part.the-variants.{Bytes}
 use Rattle.descent.proofs.Descends.{Roomy, descends}
 use Rattle.root_step.proofs.Rooted.{root-held}
 use Rattle.splices.specs.Splices.{rootedAfter, spliced}
@@ -28,7 +29,7 @@ use Rattle.splices.specs.Splices.{rootedAfter, spliced}
 -- the note holds the new bytes, and the head's other parts are as they were
 pub record SpliceHeld (m : List ℕ) (n : ℕ) (by : Measure) (at i e : ℕ) (piece new : List ℕ) : Type 0 where
   pub later : List ℕ
-  pub is : spliced m by at i e piece ≡ (value tt, later)
+  pub is : spliced m by at (Bytes i e) piece ≡ (value tt, later)
   pub held : Held later n new
   pub kept : Kept m later
 

@@ -24,6 +24,8 @@ use Rattle.leaf_parts.specs.Parts.{leafText, byteIn, spotOf}
 use Rattle.edits.specs.declared.Edit.{Edit}
 use Rattle.edits.specs.Made.{Made, edit}
 use Rattle.edits.specs.Acts.{Act, reading, onward, Did}
+use Rattle.descent.specs.declared.Part.{Part}
+use Rattle.descent.specs.declared.Part.the-variants.{Bytes}
 use Rattle.descent.specs.Descent.{editedAt}
 use Rattle.root_step.specs.Root.{rootedBy}
 use Rattle.splices.specs.Splices.{spliced, byteAt, inner, putAt, lesser, takenOut, cutAt}
@@ -49,20 +51,20 @@ rooted-done o made mid r after d f =
     subst (λ (a : Act (Unit {0})). Did verdict a r after) e f
 
 module _ (m : List ℕ) (by : Measure) (at : ℕ) where
-  pub splice-done : (i e : ℕ) (piece : List ℕ) (k : Kid) (h s : ℕ) (made : Edit) (mid : List ℕ) (r : Verdict) (after : List ℕ)
-      → k ≡ rootOf m → h ≡ heightOf m → s ≡ k .slot → Did edit (editedAt m h s by at i e piece) made mid → Did verdict (rootedBy mid (edit made)) r after
-      → Did verdict (spliced m by at i e piece) r after
+  pub splice-done : (part : Part) (piece : List ℕ) (k : Kid) (h s : ℕ) (made : Edit) (mid : List ℕ) (r : Verdict) (after : List ℕ)
+      → k ≡ rootOf m → h ≡ heightOf m → s ≡ k .slot → Did edit (editedAt m h s by at part piece) made mid → Did verdict (rootedBy mid (edit made)) r after
+      → Did verdict (spliced m by at part piece) r after
   unfolding spliced
-  splice-done i e piece k h s made mid r after x y z d f =
-      let w : editedAt m h s by at i e piece ≡ editedAt m (heightOf m) (rootOf m .slot) by at i e piece
-      = ap (λ (j : ℕ). editedAt m j s by at i e piece) y ∙ ap (λ (j : ℕ). editedAt m (heightOf m) j by at i e piece) (z ∙ ap (λ (c : Kid). c .slot) x) in
-      rooted-done (editedAt m (heightOf m) (rootOf m .slot) by at i e piece) made mid r after (subst (λ (o : Act Made). Did edit o made mid) w d) f
+  splice-done part piece k h s made mid r after x y z d f =
+      let w : editedAt m h s by at part piece ≡ editedAt m (heightOf m) (rootOf m .slot) by at part piece
+      = ap (λ (j : ℕ). editedAt m j s by at part piece) y ∙ ap (λ (j : ℕ). editedAt m (heightOf m) j by at part piece) (z ∙ ap (λ (c : Kid). c .slot) x) in
+      rooted-done (editedAt m (heightOf m) (rootOf m .slot) by at part piece) made mid r after (subst (λ (o : Act Made). Did edit o made mid) w d) f
 
   -- ── a piece put in ──
 
   module _ (piece : List ℕ) (r : Spot) (found : spot r ≡ spotOf m by at) where
     abbrev put : ℕ × TextSum → Act (Unit {0})
-    put c = spliced m by at (byteAt m c (inner at c)) (byteAt m c (inner at c)) piece
+    put c = spliced m by at (Bytes (byteAt m c (inner at c)) (byteAt m c (inner at c))) piece
 
     pub put-refused : (q : Refusal) → r ≡ Spot·case.Refused q → Did verdict (putAt m by at piece) (Verdict·case.Refused q) m
     unfolding putAt
@@ -71,12 +73,12 @@ module _ (m : List ℕ) (by : Measure) (at : ℕ) where
         record { answered = ap (λ (a : Act (Unit {0})). a .0) z; memory = ap (λ (a : Act (Unit {0})). a .1) z }
 
     pub put-done : (leaf : ℕ) (left : TextSum) → r ≡ Spot·case.At leaf left → (text : List ℕ) → text ≡ leafText m leaf → (q : ℕ) → q ≡ at - left .chars
-        → (j : ℕ) → j ≡ byteIn text q → (v : Verdict) (after : List ℕ) → Did verdict (spliced m by at j j piece) v after → Did verdict (putAt m by at piece) v after
+        → (j : ℕ) → j ≡ byteIn text q → (v : Verdict) (after : List ℕ) → Did verdict (spliced m by at (Bytes j j) piece) v after → Did verdict (putAt m by at piece) v after
     unfolding putAt
     put-done leaf left e text t q x j y v after d =
         let w : j ≡ byteIn (leafText m leaf) (at - left .chars) = y ∙ ap (byteIn text) x ∙ ap (λ (l : List ℕ). byteIn l (at - left .chars)) t in
-        let z : spliced m by at j j piece ≡ reading m (spotOf m by at) put
-        = ap (λ (n : ℕ). spliced m by at n n piece) w ∙ ap (λ (o : Outcome (ℕ × TextSum)). reading m o put) (sym (ap spot e) ∙ found) in
+        let z : spliced m by at (Bytes j j) piece ≡ reading m (spotOf m by at) put
+        = ap (λ (n : ℕ). spliced m by at (Bytes n n) piece) w ∙ ap (λ (o : Outcome (ℕ × TextSum)). reading m o put) (sym (ap spot e) ∙ found) in
         subst (λ (a : Act (Unit {0})). Did verdict a v after) z d
 
 -- ── chars taken out ──
@@ -90,9 +92,9 @@ module _ (m : List ℕ) (at k : ℕ) (r : Spot) (found : spot r ≡ spotOf m Cha
       record { answered = ap (λ (a : Act ℕ). a .0) z; memory = ap (λ (a : Act ℕ). a .1) z }
 
   module _ (leaf : ℕ) (left : TextSum) (e : r ≡ Spot·case.At leaf left) (text : List ℕ) (t : text ≡ leafText m leaf) (q : ℕ) (x : q ≡ at - left .chars) (c : ℕ) (y : c ≡ lesser k q)
-      (i : ℕ) (start : i ≡ byteIn text (q - c)) (j : ℕ) (end : j ≡ byteIn text q) (v : Verdict) (after : List ℕ) (d : Did verdict (spliced m CharEnds at i j []) v after) where
+      (i : ℕ) (start : i ≡ byteIn text (q - c)) (j : ℕ) (end : j ≡ byteIn text q) (v : Verdict) (after : List ℕ) (d : Did verdict (spliced m CharEnds at (Bytes i j) []) v after) where
     abbrev cutting : ℕ → ℕ → ℕ → Act ℕ
-    cutting a b n = onward (spliced m CharEnds at a b []) (λ u l. (value n, l))
+    cutting a b n = onward (spliced m CharEnds at (Bytes a b) []) (λ u l. (value n, l))
 
     cut-is : cutting i j c ≡ cutAt m at k
     unfolding cutAt
@@ -107,7 +109,7 @@ module _ (m : List ℕ) (at k : ℕ) (r : Spot) (found : spot r ≡ spotOf m Cha
     cut-by : reading after (verdict v) (λ u. (value c, after)) ≡ cutAt m at k
     cut-by =
         ap (λ (l : List ℕ). reading l (verdict v) (λ u. (value c, l))) (d .memory)
-        ∙ ap (λ (o : Outcome (Unit {0})). reading (spliced m CharEnds at i j [] .1) o (λ u. (value c, spliced m CharEnds at i j [] .1))) (d .answered)
+        ∙ ap (λ (o : Outcome (Unit {0})). reading (spliced m CharEnds at (Bytes i j) [] .1) o (λ u. (value c, spliced m CharEnds at (Bytes i j) [] .1))) (d .answered)
         ∙ cut-is
 
     pub cut-not : (p : Refusal) → v ≡ Verdict·case.Refused p → Did number (cutAt m at k) (Number·case.Refused p) after

@@ -12,6 +12,8 @@ use Rattle.note_head.specs.Head.{rootOf, heightOf}
 use Rattle.leaf_parts.specs.Parts.{leafText, byteIn, spotOf}
 use Rattle.edits.specs.Made.{Made}
 use Rattle.edits.specs.Acts.{Act, reading, onward}
+use Rattle.descent.specs.declared.Part.{Part}
+use Rattle.descent.specs.declared.Part.the-variants as Part·case
 use Rattle.descent.specs.Descent.{editedAt}
 use Rattle.root_step.specs.Root.{rooted, rootedBy}
 
@@ -19,10 +21,14 @@ use Rattle.root_step.specs.Root.{rooted, rootedBy}
 abbrev pub rootedAfter : Act Made → Act (Unit {0})
 rootedAfter o = rootedBy (o .1) (o .0)
 
--- [i, e) of the leaf that an index lies in gives way to a piece
-unfoldable pub spliced : List ℕ → Measure → ℕ → ℕ → ℕ → List ℕ → Act (Unit {0})
+-- a part of the leaf that an index lies in gives way to a piece
+unfoldable pub spliced : List ℕ → Measure → ℕ → Part → List ℕ → Act (Unit {0})
 unfolding editedAt rooted
-spliced m by at i e piece = rootedAfter (editedAt m (heightOf m) (rootOf m .slot) by at i e piece)
+spliced m by at part piece = rootedAfter (editedAt m (heightOf m) (rootOf m .slot) by at part piece)
+
+-- k chars before a place give way to a piece, inside one leaf
+abbrev pub insideAt : List ℕ → ℕ → ℕ → List ℕ → Act (Unit {0})
+insideAt m at k piece = spliced m CharEnds at (Part·case.Inside k) piece
 
 -- the byte of the leaf r at which its char i begins
 abbrev pub byteAt : List ℕ → ℕ × TextSum → ℕ → ℕ
@@ -35,7 +41,7 @@ inner at r = at - r .1 .chars
 -- a piece put in at a place
 unfoldable pub putAt : List ℕ → Measure → ℕ → List ℕ → Act (Unit {0})
 unfolding leafAt spliced
-putAt m by at piece = reading m (spotOf m by at) (λ r. spliced m by at (byteAt m r (inner at r)) (byteAt m r (inner at r)) piece)
+putAt m by at piece = reading m (spotOf m by at) (λ r. spliced m by at (Part·case.Bytes (byteAt m r (inner at r)) (byteAt m r (inner at r))) piece)
 
 abbrev pub lesser : ℕ → ℕ → ℕ
 lesser a b = cond (ltb a b) a b
@@ -43,7 +49,7 @@ lesser a b = cond (ltb a b) a b
 -- the chars before a place, at most k and of one leaf, taken out: how many they were
 abbrev pub takenOut : List ℕ → ℕ → ℕ → ℕ × TextSum → Act ℕ
 takenOut m at k r =
-    onward (spliced m CharEnds at (byteAt m r (inner at r - lesser k (inner at r))) (byteAt m r (inner at r)) [])
+    onward (spliced m CharEnds at (Part·case.Bytes (byteAt m r (inner at r - lesser k (inner at r))) (byteAt m r (inner at r))) [])
     (λ u l. (value (lesser k (inner at r)), l))
 
 unfoldable pub cutAt : List ℕ → ℕ → ℕ → Act ℕ

@@ -2,6 +2,7 @@
 use answer::Number;
 use answer::Verdict;
 use child_search::Measure;
+use descent::Part;
 use descent::edit_at;
 use leaf_parts::above;
 use leaf_parts::byte_in;
@@ -14,7 +15,7 @@ use tree_search::Spot;
 ghost use mathlib.Core.Path.{_≡_};
 ghost use Rattle.answer.specs.Answers.{number, verdict};
 ghost use Rattle.edits.specs.Acts.{Did};
-ghost use Rattle.splices.specs.Splices.{spliced, putAt, lesser, cutAt};
+ghost use Rattle.splices.specs.Splices.{spliced, insideAt, putAt, lesser, cutAt};
 
 fn place(slot: u32) -> usize
     ensures { λ r. ⌜ r ≡ slot ⌝ }
@@ -22,14 +23,21 @@ fn place(slot: u32) -> usize
     slot as usize
 }
 
-// The bytes [start, end) of the leaf that a search finds give way to a piece.
-fn splice(m: &mut [u8], by: Measure, at: usize, start: usize, end: usize, piece: &[u8]) -> Verdict
-    ensures { λ r. ⌜ Did verdict (spliced (now (m .entry)) by at start end (now (piece .entry))) r (now (m .exit)) ⌝ }
+// A part of the leaf that a search finds gives way to a piece.
+fn splice(m: &mut [u8], by: Measure, at: usize, part: Part, piece: &[u8]) -> Verdict
+    ensures { λ r. ⌜ Did verdict (spliced (now (m .entry)) by at part (now (piece .entry))) r (now (m .exit)) ⌝ }
 {
     let kid = root(m);
     let h = height(m);
-    let made = edit_at(m, h, place(kid.slot), by, at, start, end, piece);
+    let made = edit_at(m, h, place(kid.slot), by, at, part, piece);
     put_root(m, made)
+}
+
+// k chars before a place give way to a piece, where they lie inside one leaf: refused by 12 elsewhere.
+pub fn splice_inside(m: &mut [u8], at: usize, k: usize, piece: &[u8]) -> Verdict
+    ensures { λ r. ⌜ Did verdict (insideAt (now (m .entry)) at k (now (piece .entry))) r (now (m .exit)) ⌝ }
+{
+    splice(m, Measure::CharEnds, at, Part::Inside(k), piece)
 }
 
 // A piece put in at a place.
@@ -40,7 +48,7 @@ pub fn put_in(m: &mut [u8], by: Measure, at: usize, piece: &[u8]) -> Verdict
         Spot::Refused(r) => Verdict::Refused(r),
         Spot::At(leaf, left) => {
             let i = byte_in(text_at(m, leaf), above(at, left.chars as usize));
-            splice(m, by, at, i, i, piece)
+            splice(m, by, at, Part::Bytes(i, i), piece)
         }
     }
 }
@@ -67,7 +75,13 @@ pub fn take_out(m: &mut [u8], at: usize, k: usize) -> Number
             let start = byte_in(text, inner - c);
             let end = byte_in(text, inner);
             let empty: [u8; 1] = [0; 1];
-            match splice(m, Measure::CharEnds, at, start, end, &empty[..0]) {
+            match splice(
+                m,
+                Measure::CharEnds,
+                at,
+                Part::Bytes(start, end),
+                &empty[..0],
+            ) {
                 Verdict::Refused(r) => Number::Refused(r),
                 Verdict::Accepted => Number::Is(c),
             }

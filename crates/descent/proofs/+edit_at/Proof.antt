@@ -9,7 +9,7 @@ use borrow.Fn.PlainCycle.{Measures, is, falls, and}
 use Rattle.descent.proofs.edit_at.Reads as edit-at
 use Rattle.descent.proofs.edit_at.Kinds as edit-at-kinds
 use Rattle.descent.proofs.+edit_at.Lts-edit_at as edit-at-lts
-use Rattle.leaf_step.proofs.leaf_step.Reads as leaf-step-reads
+use Rattle.descent.proofs.edit_part.Reads as edit-part-reads
 use Rattle.rise.proofs.rise.Reads as rise-reads
 use Rattle.tree_search.proofs.child_at.Reads as child-at-reads
 use Rattle.tree_search.proofs.rest.Reads as rest-reads
@@ -28,8 +28,8 @@ edit-at-below t = and 2 edit-at-kinds.ps (falls 2 edit-at-kinds.ps _<_ μ-edit-a
 -- what the calls ask and what is learnt from them
 abbrev Calls : ℕ → edit-at-lts.Claims
 Calls t = (
-  leaf-step-reads.Asked,
-  leaf-step-reads.Learnt,
+  edit-part-reads.Asked,
+  edit-part-reads.Learnt,
   child-at-reads.Asked,
   child-at-reads.Learnt,
   rest-reads.Asked,
@@ -40,16 +40,16 @@ Calls t = (
   rise-reads.Learnt,
 )
 
-edit-at-leaf-step-requires : (t : ℕ) → edit-at-lts.Need-leaf-step-requires (Calls t) (edit-at-at t) edit-at.Post
-edit-at-leaf-step-requires t c κs = tt
+edit-at-edit-part-requires : (t : ℕ) → edit-at-lts.Need-edit-part-requires (Calls t) (edit-at-at t) edit-at.Post
+edit-at-edit-part-requires t c κs = tt
 
 edit-at-same-length : (t : ℕ) → edit-at-lts.Need-same-length (Calls t) (edit-at-at t) edit-at.Post
-edit-at-same-length t c = c .before .before .leaf-step .kept .0
+edit-at-same-length t c = c .before .before .edit-part .kept .0
 
 edit-at-returns : (t : ℕ) → edit-at-lts.Need-returns (Calls t) (edit-at-at t) edit-at.Post
 edit-at-returns t c =
     let a = c .before .before .before .before .before .before .before .args in
-    at-leaf (a .m .now) (a .level) (a .slot) (a .by) (a .at) (a .start) (a .end) (a .piece .now) _ _ (c .before .before .before .before .if1 .taken) (c .before .before .leaf-step .ensures)
+    at-leaf (a .m .now) (a .level) (a .slot) (a .by) (a .at) (a .part) (a .piece .now) _ _ (c .before .before .before .before .if1 .taken) (c .before .before .edit-part .ensures)
 
 edit-at-child-at-requires : (t : ℕ) → edit-at-lts.Need-child-at-requires (Calls t) (edit-at-at t) edit-at.Post
 edit-at-child-at-requires t c κs = tt
@@ -78,7 +78,7 @@ edit-at-same-length-2 t c = refl
 edit-at-returns-2 : (t : ℕ) → edit-at-lts.Need-returns-2 (Calls t) (edit-at-at t) edit-at.Post
 edit-at-returns-2 t c =
     let a = c .before .before .before .before .before .before .before .before .args in
-    no-child (a .m .now) (a .slot) (a .by) (a .at) (a .start) (a .end) (a .piece .now) (a .level) (omega (arith, c .before .before .before .before .before .if1 .left)) _ (c .before .before .before .child-at .ensures .0) _ _ (c .before .r .given .1) refl
+    no-child (a .m .now) (a .slot) (a .by) (a .at) (a .part) (a .piece .now) (a .level) (omega (arith, c .before .before .before .before .before .if1 .left)) _ (c .before .before .before .child-at .ensures .0) _ _ (c .before .r .given .1) refl
 
 edit-at-same-length-3 : (t : ℕ) → edit-at-lts.Need-same-length-3 (Calls t) (edit-at-at t) edit-at.Post
 edit-at-same-length-3 t c = c .before .before .rise .kept .0 ∙ c .before .before .before .before .before .before .edit-at .kept .0
@@ -86,14 +86,14 @@ edit-at-same-length-3 t c = c .before .before .rise .kept .0 ∙ c .before .befo
 edit-at-returns-3 : (t : ℕ) → edit-at-lts.Need-returns-3 (Calls t) (edit-at-at t) edit-at.Post
 edit-at-returns-3 t c =
     let a = c .before .before .before .before .before .before .before .before .before .before .before .before .before .before .before .before .before .args in
-    in-child (a .m .now) (a .slot) (a .by) (a .at) (a .start) (a .end) (a .piece .now) (a .level) (omega (arith, c .before .before .before .before .before .before .before .before .before .before .before .before .before .before .if1 .left)) _ (c .before .before .before .before .before .before .before .before .before .before .before .before .child-at .ensures .0) _ _ _ (c .before .before .before .before .before .before .before .before .before .before .idx .given .1) _ (c .before .before .before .before .before .before .before .rest .ensures) _ _
+    in-child (a .m .now) (a .slot) (a .by) (a .at) (a .part) (a .piece .now) (a .level) (omega (arith, c .before .before .before .before .before .before .before .before .before .before .before .before .before .before .if1 .left)) _ (c .before .before .before .before .before .before .before .before .before .before .before .before .child-at .ensures .0) _ _ _ (c .before .before .before .before .before .before .before .before .before .before .idx .given .1) _ (c .before .before .before .before .before .before .before .rest .ensures) _ _
     (c .before .before .before .before .before .before .edit-at .ensures) _ _ (c .before .before .rise .ensures)
 
 pub +edit-at-spec : {M : Type 1} → statement M
 +edit-at-spec = close μ-edit-at λ t. edit-at-lts.spec (Calls t)
     (edit-at-at t)
     edit-at.Post
-    (edit-at-leaf-step-requires t)
+    (edit-at-edit-part-requires t)
     (edit-at-same-length t)
     (edit-at-returns t)
     (edit-at-child-at-requires t)

@@ -1,31 +1,56 @@
--- `insert_own` meets its contract: nothing to do for an empty piece, and else the law of the call below.
-use mathlib.Core.Path.{refl, ap}
+-- `insert_own` meets its contract: nothing to do for an empty piece; else inside one leaf, or where the side asks.
+use mathlib.Core.Path.{refl, sym, ap, subst}
+use mathlib.Core.Logic.{inr}
 use mathlib.Core.List.{List}
 use Prim.Native.Nat.{ℕ}
 use lib.ListN.{length}
 use borrow.Author.Needs.{needs}
-use Rattle.note_edits.proofs.Steps.{put-none, put-turned}
+use Rattle.plain.specs.Utf8.{decode}
+use Rattle.plain.specs.Edit.{putIn}
+use Rattle.edited.specs.Turned.{Puts}
+use Rattle.note_edits.proofs.Steps.{put-none, was-done, was-not, inside-put, turned-again}
 use Rattle.note_edits.proofs.insert_own.Statement.{statement}
 use Rattle.note_edits.proofs.insert_own.Tie as tie
 
 returns : tie.Need-returns
 returns c = let s = c .before .before .before in (put-none (s .args .m .now) (s .args .p) (s .args .piece .now) (s .pre) (c .if1 .taken), λ e. refl)
 
-side-requires : tie.Need-side-requires
-side-requires c κs = let s = c .before .before .before .before in (s .pre .holds, s .pre .here)
-
-put-in-requires : tie.Need-put-in-requires
-put-in-requires c κs = search needs
+inside-requires : tie.Need-inside-requires
+inside-requires c κs = let s = c .before .before .before .before in (s .pre, inr refl)
 
 same-length : tie.Need-same-length
 same-length c = search needs
 
 returns-2 : tie.Need-returns-2
 returns-2 c =
-    let s = c .before .before .before .before .before .before .before .before .before in (
-      put-turned (s .args .m .now) (s .args .p) (s .args .piece .now) (s .pre) _ (c .before .before .before .before .side .ensures) _ _ (c .before .before .put-in .ensures),
-      λ e. absurd (c .before .before .before .before .before .before .if1 .left (ap (λ (l : List ℕ). length l) e)),
+    let s = c .before .before .before .before .before .before .before .before in (
+      inside-put (s .args .m .now) (s .args .p) (s .args .piece .now) _ (was-done (s .args .m .now) _ _ _ (c .before .before .before .inside .ensures) (c .if2 .taken)),
+      λ e. absurd (c .before .before .before .before .before .if1 .left (ap (λ (l : List ℕ). length l) e)),
+    )
+
+insert-beside-requires : tie.Need-insert-beside-requires
+insert-beside-requires c κs =
+    let s = c .before .before .before .before .before .before .before .before .before in
+    subst (λ (l : List ℕ). Puts l (s .args .p) (s .args .piece .now)) (sym (was-not (s .args .m .now) _ _ _ (c .before .before .before .before .inside .ensures) (c .before .if2 .left))) (s .pre)
+
+same-length-2 : tie.Need-same-length-2
+same-length-2 c = search needs
+
+returns-3 : tie.Need-returns-3
+returns-3 c =
+    let s = c .before .before .before .before .before .before .before .before .before .before .before .before in (
+      turned-again (s .args .m .now) _ (was-not (s .args .m .now) _ _ _ (c .before .before .before .before .before .before .before .inside .ensures) (c .before .before .before .before .if2 .left)) (λ cs. putIn (s .args .p) (decode (s .args .piece .now)) cs) _ (c .before .before .insert-beside .ensures),
+      λ e. absurd (c .before .before .before .before .before .before .before .before .before .if1 .left (ap (λ (l : List ℕ). length l) e)),
     )
 
 pub insert-own-spec : {M : Type 1} → statement M
-insert-own-spec = tie.close (tie.spec returns side-requires put-in-requires same-length returns-2)
+insert-own-spec =
+    tie.close
+    (tie.spec
+    returns
+    inside-requires
+    same-length
+    returns-2
+    insert-beside-requires
+    same-length-2
+    returns-3)

@@ -25,7 +25,7 @@ same-length c = search needs
 returns : tie.Need-returns
 returns c =
     let a = c .before .before .before .before .before .before .before .before .before .before .before .before .before .before .before .args in
-    splice-done (a .m .now) (a .by) (a .at) (a .start) (a .end) (a .piece .now) (c .before .before .before .before .before .before .before .before .before .before .before .root .result) _ _ (c .before .before .before .before .before .before .edit-at .result) _ _ _ (c .before .before .before .before .before .before .before .before .before .before .before .root .ensures) (c .before .before .before .before .before .before .before .before .before .height .ensures) (c .before .before .before .before .before .before .before .place .ensures) (c .before .before .before .before .before .before .edit-at .ensures) (c .before .before .put-root .ensures)
+    splice-done (a .m .now) (a .by) (a .at) (a .part) (a .piece .now) (c .before .before .before .before .before .before .before .before .before .before .before .root .result) _ _ (c .before .before .before .before .before .before .edit-at .result) _ _ _ (c .before .before .before .before .before .before .before .before .before .before .before .root .ensures) (c .before .before .before .before .before .before .before .before .before .height .ensures) (c .before .before .before .before .before .before .before .place .ensures) (c .before .before .before .before .before .before .edit-at .ensures) (c .before .before .put-root .ensures)
 
 pub splice-spec : {M : Type 1} → statement M
 splice-spec =
