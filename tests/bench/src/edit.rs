@@ -18,9 +18,17 @@ const WARM_UPS: usize = 4;
 const BLOCKS: usize = 60;
 const BLOCK: usize = 50;
 
-/// An edit that is refused after the check: the check as it is compiled into the edits' library. That
-/// of `wol_note_check` is compiled by itself, and the two differ by more than an edit may cost.
-const CHECK_ALONE: Edit = Edit::Remove { start: 1, end: 0 };
+/// An edit of the same kind that is refused after the check: the check as it is compiled there. That of
+/// `wol_note_check` is compiled by itself, and the two differ by more than an edit may cost.
+fn check_alone(edit: &Edit) -> Edit {
+    match edit {
+        Edit::Insert { piece, .. } => Edit::Insert {
+            place: usize::MAX,
+            piece: piece.clone(),
+        },
+        Edit::Remove { .. } => Edit::Remove { start: 1, end: 0 },
+    }
+}
 
 pub fn heading() {
     println!(
@@ -100,9 +108,10 @@ struct Times {
 
 impl Times {
     fn time_ours(&mut self, memory: &mut [u8], edit: &Edit) {
+        let refused = check_alone(edit);
         let check = nanoseconds(|| {
-            let (refusal, _) = edits::edit(black_box(memory), &CHECK_ALONE);
-            assert_eq!(refusal, 3, "{CHECK_ALONE:?}");
+            let (refusal, _) = edits::edit(black_box(memory), &refused);
+            assert_eq!(refusal, 3, "{refused:?}");
         });
         let whole = nanoseconds(|| {
             let (refusal, _) = edits::edit(black_box(memory), edit);
