@@ -6,7 +6,7 @@ use Prim.Native.Nat.{ℕ, suc, _+_, _≤_}
 use native.Mathlib.Omega.{arith}
 use lib.Dec.{eqb, leb}
 use lib.ListN.{length, take, drop, length-append, length-drop}
-use lib.Seq.{take-at, drop-at}
+use lib.Seq.{take-at, drop-at, take-take}
 use borrow.Author.Tests.{le-leb, eq-eqb}
 use Rattle.plain.specs.Utf8.{decode}
 use Rattle.plain.specs.Count.{breaks, lines}
@@ -16,6 +16,7 @@ use Rattle.plain_note.specs.Note.{Note, Mark, need, limit}
 use Rattle.text_info.specs.Info.{zeros}
 use Rattle.text_info.specs.declared.TextSum.{TextSum}
 use Rattle.pool.specs.declared.Kid.{Kid}
+use Rattle.pool.specs.Slot.{slotsAt}
 use Rattle.tree.proofs.Lists.{both}
 use Rattle.tree_search.proofs.Nested.{told-by}
 use Rattle.note_head.specs.Head.{nOf, editOf, rootOf, heightOf, freeOf, marksFrom, ownOf}
@@ -114,6 +115,20 @@ module _ (m : List ℕ) (ok : wellFormed m ≡ true) where
     after-long : length after ≡ length m
     after-long = omega (arith, ap length is, length-append later (drop (need (nOf m)) m), length-drop (need (nOf m)) m, own-long, formed m ok .room)
 
+    own-front : (k : ℕ) → k ≤ need (nOf m) → take k (ownOf m) ≡ take k m
+    unfolding ownOf
+    own-front k h = take-take k (need (nOf m)) m h
+
+    after-front : (k : ℕ) → k ≤ need (nOf m) → take k after ≡ take k later
+    after-front k h = sym (take-take k (need (nOf m)) after h) ∙ ap (take k) front
+
+    head-kept : Kept m after
+    head-kept =
+        record {
+          front = after-front 8 (omega arith) ∙ t .kept .front ∙ own-front 8 (omega arith);
+          rest = ap (drop 36) (after-front slotsAt (omega arith)) ∙ t .kept .rest ∙ ap (drop 36) (own-front slotsAt (omega arith));
+        }
+
     abbrev note : List ℕ → List Mark → ℕ → ℕ → Note
     note text marks edit n = record { text = text; marks = marks; edit = edit; n = n }
 
@@ -150,6 +165,7 @@ module _ (m : List ℕ) (ok : wellFormed m ≡ true) where
             note = ap (λ (o : List ℕ). noteIn o) after-own ∙ note-is;
             shape = shape-is;
             long = after-long;
+            head = head-kept;
             beyond = ap (drop (need (nOf m))) is ∙ drop-at later (drop (need (nOf m)) m) (need (nOf m)) own-long;
           }
 

@@ -8,6 +8,7 @@ use Rattle.plain.specs.Count.{lines}
 use Rattle.plain.specs.Outcome.{Outcome, Outcome.value, Outcome.refused, mapped}
 use Rattle.plain_note.specs.Note.{Note, need}
 use Rattle.note_head.specs.Head.{nOf, ownOf}
+use Rattle.held.specs.Held.{Kept}
 use Rattle.memory.specs.Formed.{needMet, treeRight, slotsRight, sizeRight, noteOf, ofNote}
 use Rattle.line_change.specs.Change.{minus, change}
 use Rattle.line_change.specs.declared.Change.{Change}
@@ -22,11 +23,13 @@ abbrev pub withText : List ℕ → Note → Note
 withText t N = record { text = t; marks = N .marks; edit = N .edit; n = N .n }
 
 -- The memory `after` holds the note of m with the text t; marks, edit number and slots are as they were. It is well formed but for the marks,
--- which the caller moves, and no byte beyond the need has changed.
+-- which the caller moves. No byte of the head has changed but those that tell the tree's root, its height and the first free slot, and none beyond
+-- the need.
 pub record Holding (m t after : List ℕ) : Type 0 where
   pub note : noteOf after ≡ withText t (noteOf m)
   pub shape : shaped after ≡ true
   pub long : length after ≡ length m
+  pub head : Kept m after
   pub beyond : drop (need (nOf m)) after ≡ drop (need (nOf m)) m
 
 -- An edit of the note in the lent memory m that comes to o on paper, a text or a refusal, answered by r; it leaves the memory `after`. It is idle
