@@ -4,11 +4,12 @@ use mathlib.Core.List.{List, [], _∷_, _++_}
 use Prim.Native.Nat.{ℕ, _+_, _≤_, _<_}
 use native.Mathlib.Omega.{arith}
 use native.Mathlib.Numerals.{add-one}
+use lib.Dec.{leb}
 use lib.ListN.{length, take, drop, set}
 use lib.Seq.{set-split}
-use borrow.Author.Tests.{lt-ltb, le-ltb}
-use Rattle.plain.specs.Outcome.{Outcome, Outcome.value, Outcome.refused, past, kept}
-use Rattle.plain.proofs.Outcome.{one-applies, one-passed}
+use borrow.Author.Tests.{lt-ltb, le-ltb, le-leb, lt-leb}
+use Rattle.plain.specs.Outcome.{Outcome, Outcome.value, Outcome.refused, ruled, past, kept}
+use Rattle.plain.proofs.Outcome.{rule-applies, rule-passed, one-applies, one-passed}
 use Rattle.answer.specs.declared.Verdict.{Verdict}
 use Rattle.leaf_bytes.specs.Moves.{overlaid}
 use Rattle.leaf_bytes.proofs.Copies.{overlaid-length}
@@ -16,7 +17,7 @@ use Rattle.pool.specs.Slot.{slotsAt}
 use Rattle.pool.specs.declared.Kid.{Kid}
 use Rattle.pool.specs.Calls.{Wrote}
 use Rattle.pool.proofs.Over.{over-join, sets-over}
-use Rattle.head_write.specs.Writes.{numberPut, rootPut, heightPut, numberSet, rootSet, heightSet}
+use Rattle.head_write.specs.Writes.{numberPut, rootPut, heightPut, livePut, placePut, noHead, noMark, numberSet, rootSet, heightSet, liveSet, placeSet}
 
 -- a number, by four stores, and a byte by one
 pub number-laid : (m : List ℕ) (p a b c d : ℕ) → p + 4 ≤ length m
@@ -70,3 +71,29 @@ module _ (m : List ℕ) (h : 6144 ≤ length m) where
 
     pub height-there : (v : ℕ) → Wrote (heightSet m v) m r after → after ≡ heightPut m v
     height-there v w = w .memory ∙ ap (λ (o : Outcome (List ℕ)). kept m o) (height-it v)
+
+-- ── the rules of a mark ──
+
+module _ (m : List ℕ) (k : ℕ) (x : List ℕ) where
+  pub mark-short : length m < 6144 → ruled (noHead m ∷ noMark k ∷ []) x ≡ refused 2
+  mark-short h = rule-applies 2 (past slotsAt (length m)) (noMark k ∷ []) x (lt-ltb (length m) slotsAt h)
+
+  module _ (h : 6144 ≤ length m) where
+    passed : ruled (noHead m ∷ noMark k ∷ []) x ≡ ruled (noMark k ∷ []) x
+    passed = rule-passed 2 (past slotsAt (length m)) (noMark k ∷ []) x (le-ltb (length m) slotsAt h)
+
+    pub mark-none : 256 ≤ k → ruled (noHead m ∷ noMark k ∷ []) x ≡ refused 7
+    mark-none l = passed ∙ one-applies 7 (leb 256 k) x (le-leb 256 k l)
+
+    pub mark-it : k < 256 → ruled (noHead m ∷ noMark k ∷ []) x ≡ value x
+    mark-it l = passed ∙ one-passed 7 (leb 256 k) x (lt-leb 256 k l)
+
+-- what a call that is not refused has written
+module _ (m : List ℕ) (h : 6144 ≤ length m) (k : ℕ) (l : k < 256) (v : ℕ) (r : Verdict) (after : List ℕ) where
+  pub live-there : Wrote (liveSet m k v) m r after → after ≡ livePut m k v
+  unfolding liveSet
+  live-there w = w .memory ∙ ap (λ (o : Outcome (List ℕ)). kept m o) (mark-it m k (livePut m k v) h l)
+
+  pub place-there : Wrote (placeSet m k v) m r after → after ≡ placePut m k v
+  unfolding placeSet
+  place-there w = w .memory ∙ ap (λ (o : Outcome (List ℕ)). kept m o) (mark-it m k (placePut m k v) h l)

@@ -9,7 +9,7 @@ ghost use Rattle.leaf_bytes.specs.Moves.{overlaid};
 ghost use Rattle.pool.specs.Big.{bytesOf4};
 ghost use Rattle.pool.specs.Slot.{kidBytes, Fits};
 ghost use Rattle.pool.specs.Calls.{Wrote};
-ghost use Rattle.head_write.specs.Writes.{numberSet, rootSet, heightSet};
+ghost use Rattle.head_write.specs.Writes.{numberSet, rootSet, heightSet, liveSet, placeSet};
 
 const HEAD_BYTES: usize = 6144;
 
@@ -23,6 +23,15 @@ const ROOT_AT: usize = 8;
 const HEIGHT_AT: usize = 28;
 
 const FREE_AT: usize = 32;
+
+// The marks, 16 bytes each: whether it is live, and from the fifth byte on its place.
+const MARKS: usize = 256;
+
+const MARKS_AT: usize = 2048;
+
+const PLACES_AT: usize = 2052;
+
+const MARK_BYTES: usize = 16;
 
 // A number of four bytes, the most significant first.
 fn put_number(m: &mut [u8], at: usize, v: u32)
@@ -96,5 +105,32 @@ pub fn set_height(m: &mut [u8], h: u8) -> Verdict
         return Verdict::Refused(Refusal::Memory);
     }
     m[HEIGHT_AT] = h;
+    Verdict::Accepted
+}
+
+// Mark k live, by 1, or free, by 0.
+pub fn set_mark_live(m: &mut [u8], k: usize, live: u8) -> Verdict
+    ensures { λ r. ⌜ Wrote (liveSet (now (m .entry)) k live) (now (m .entry)) r (now (m .exit)) ⌝ }
+{
+    if m.len() < HEAD_BYTES {
+        return Verdict::Refused(Refusal::Memory);
+    }
+    if MARKS <= k {
+        return Verdict::Refused(Refusal::Mark);
+    }
+    m[MARKS_AT + MARK_BYTES * k] = live;
+    Verdict::Accepted
+}
+
+pub fn set_mark_place(m: &mut [u8], k: usize, place: u32) -> Verdict
+    ensures { λ r. ⌜ Wrote (placeSet (now (m .entry)) k place) (now (m .entry)) r (now (m .exit)) ⌝ }
+{
+    if m.len() < HEAD_BYTES {
+        return Verdict::Refused(Refusal::Memory);
+    }
+    if MARKS <= k {
+        return Verdict::Refused(Refusal::Mark);
+    }
+    put_number(m, PLACES_AT + MARK_BYTES * k, place);
     Verdict::Accepted
 }
