@@ -1,1 +1,4 @@
 pub mod Rules
+pub mod Beside
+pub mod Written
+pub mod Moves
