@@ -1,10 +1,10 @@
 -- Every call, accepted or not, leaves a note that lent memory can hold; and opening makes one.
 use mathlib.Core.Path.{_≡_, refl, ap, _∙_}
-use mathlib.Core.Bool.{Bool, true, false, _&&_, _||_, cond}
+use mathlib.Core.Bool.{true, _||_}
 use mathlib.Core.List.{List, [], _∷_, _++_}
-use Prim.Native.Nat.{ℕ, zero, suc, _+_, _-_, _^_, _≤_, _<_}
+use Prim.Native.Nat.{ℕ, zero, suc, _+_, _-_, _≤_, _<_}
 use native.Mathlib.Omega.{arith}
-use lib.Dec.{ltb, eqb}
+use lib.Dec.{ltb}
 use lib.ListN.{length, getD, take, drop, replicate, length-append, length-set, length-map, length-replicate}
 use lib.Seq.{take-add}
 use borrow.Author.Tests.{ltb-false}
@@ -19,12 +19,13 @@ use Rattle.plain.proofs.Utf8.{valid-sound}
 use Rattle.plain.proofs.Place.{byte-split}
 use Rattle.plain.proofs.Edit.{replaced-length}
 use Rattle.plain_note.specs.Note.{Note, Mark, Mark.free, Mark.at, need, limit, opened, opening}
-use Rattle.plain_calls.specs.Marks.{markOf, lowest, movedTo, moved, raised}
+use Rattle.plain_calls.specs.Marks.{markOf, lowest, movedTo, moved}
 use Rattle.plain_calls.specs.Calls.{Call, Call.insert, Call.remove, Call.setMark, Call.dropMark, Call.look, Said, edited, marked, called, left, afterAll}
 use Rattle.plain_calls.specs.Fits.{Placed, Fits}
 use Rattle.plain_calls.proofs.Marks.{same-or-not, marked-at, marked-free, marked-other, marks-moved, moved-within}
 use Rattle.plain_calls.proofs.Rules.{passed}
 use Rattle.plain_calls.proofs.Accepted.{came}
+use Rattle.plain_calls.proofs.Nothing.{edit-small}
 
 -- ── an edit ──
 
@@ -44,10 +45,6 @@ bytes-replaced s e new cs h =
       bytes-append (take s cs) (take (e - s) (drop s cs)),
     )
 
-edit-small : (t : Bool) (e : ℕ) → e < 2 ^ 32 → cond t e (raised e) < 2 ^ 32
-edit-small true e h = h
-edit-small false e h = omega arith
-
 placed-moved : (m : Mark) (s e : ℕ) (new cs : List ℕ) → s ≤ e → e ≤ length cs → Placed cs m → Placed (replaced s e new cs) (moved (movedTo s e (length new)) m)
 placed-moved free s e new cs h k r = tt
 placed-moved (at q) s e new cs h k r = omega (arith, moved-within s e (length new) q (length cs) h k r, replaced-length s e new cs h k)
@@ -61,7 +58,7 @@ module _ (N : Note) (r : Fits N) where
     size = room;
     count = length-map (N .marks) (moved (movedTo s e (length new))) ∙ r .count;
     placed = λ j. rw (marks-moved s e new N j) (placed-moved (markOf N j) s e new (N .text) h k (r .placed j));
-    number = edit-small (eqb s e && eqb (length new) 0) (N .edit) (r .number);
+    number = edit-small s e new N (r .number);
   }
 
   -- ── one mark set or freed ──

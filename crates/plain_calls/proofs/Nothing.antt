@@ -2,7 +2,7 @@
 use mathlib.Core.Path.{_≡_, refl, sym, ap, _∙_}
 use mathlib.Core.Bool.{Bool, true, false, _&&_, cond, true≢false, false≢true}
 use mathlib.Core.List.{List, [], _∷_, map}
-use Prim.Native.Nat.{ℕ, _-_, _≤_, _<_}
+use Prim.Native.Nat.{ℕ, _-_, _^_, _≤_, _<_}
 use native.Mathlib.Omega.{arith}
 use lib.Dec.{eqb}
 use lib.IntN.{pos}
@@ -35,7 +35,7 @@ pub edited-nothing : (s : ℕ) (N : Note) → edited s s [] N ≡ N
 edited-nothing s N =
     let t = take-append-drop s (N .text) in
     let m = marks-stay (movedTo s s 0) (λ q. cut q s (moved-before s s 0 q) (λ h. moved-on s s 0 q (omega arith) (λ k. omega arith) h ∙ omega arith)) (N .marks) in
-    let e = ap (λ (b : Bool). cond (b && true) (N .edit) (raised (N .edit))) (eq-eqb s s refl) in
+    let e : edited s s [] N .edit ≡ N .edit = rw (eq-eqb s s refl) in
     λ i. record { text = t i; marks = m i; edit = e i; n = N .n }
 
 no-lines : (s : ℕ) (N : Note) → linesMore N (edited s s [] N .text) ≡ pos 0
@@ -66,6 +66,14 @@ edited-changes s e new N h k other = record {
     go true true f g = absurd (other (omega (arith, eqb-true s e f, eqb-true (length new) 0 g)))
     go true false f g = refl
     go false u f g = refl
+
+-- 32 bits hold the edit number
+pub edit-small : (s e : ℕ) (new : List ℕ) (N : Note) → N .edit < 2 ^ 32 → edited s e new N .edit < 2 ^ 32
+edit-small s e new N h = go (eqb s e && eqb (length new) 0)
+  where
+    go : (t : Bool) → cond t (N .edit) (raised (N .edit)) < 2 ^ 32
+    go true = h
+    go false = omega arith
 
 -- THEOREM: a piece that is not empty, and a range that is not
 pub insert-changes : (N : Note) (p : ℕ) (piece : List ℕ) (r : Said × Note) → called N (insert p piece) ≡ value r → 0 < length piece → Changes N (r .1)
