@@ -1,0 +1,5 @@
+pub mod Numbers
+pub mod Follow
+pub mod Whole
+pub mod Words
+pub mod Named
