@@ -3,3 +3,5 @@ pub mod Follow
 pub mod Whole
 pub mod Words
 pub mod Named
+pub mod Shift
+pub mod Shown
