@@ -15,10 +15,6 @@ use Rattle.plain_note.specs.Note.{Note, Mark, Mark.free, Mark.at}
 use Rattle.plain_calls.specs.Marks.{isFree, markOf, lowest, movedTo, moved}
 use Rattle.plain_calls.specs.Calls.{edited, marked}
 
-pub is-free : (m : Mark) → isFree m ≡ true → m ≡ free
-is-free free e = refl
-is-free (at q) e = absurd (false≢true e)
-
 -- ── the number that is taken next ──
 
 -- THEOREM: it is free, and every lower one is live
@@ -35,9 +31,9 @@ below-live (free ∷ ms) i h = absurd (not-suc-le-zero h)
 below-live (at q ∷ ms) zero h = refl
 below-live (at q ∷ ms) (suc i) h = below-live ms i (omega arith)
 
--- THEOREM: one of the marks is free exactly if it is one of their numbers
-pub some-free : (ms : List Mark) → (lowest ms < length ms) ↔ ((i : ℕ) × (i < length ms) × (isFree (getD ms i free) ≡ true))
-some-free ms = (
+-- THEOREM: it is one of the n numbers exactly if one of the n marks is free
+pub some-free : (ms : List Mark) (n : ℕ) → length ms ≡ n → (lowest ms < n) ↔ ((k : ℕ) × (k < n) × (isFree (getD ms k free) ≡ true))
+some-free ms n e = (
   λ h. (lowest ms, h, ap isFree (lowest-free ms)),
   λ r. cut (r .0) (lowest ms) (λ k. absurd (false≢true (sym (below-live ms (r .0) k) ∙ r .2))) (λ k. omega (arith, r .1)),
 )

@@ -11,7 +11,7 @@ use Rattle.plain.specs.Place as Place
 use Rattle.plain.specs.Count.{lineAt}
 use Rattle.plain.specs.Edit.{putIn}
 use Rattle.plain.specs.Outcome.{Outcome, Outcome.value, Outcome.refused, Rule, ruled, past, mapped}
-use Rattle.plain.proofs.Outcome.{more-refused}
+use Rattle.plain.proofs.Outcome.{more-refused, more-passed}
 use Rattle.plain_note.specs.Note.{Note, mostBy, between, converted, copied, readFrom, previewed, insertRules}
 use Rattle.plain_note.specs.Edits.{removeRules, inserted, removed}
 use Rattle.plain_calls.specs.Marks.{isFree, markOf, lowest, standing, lineBeside}
@@ -110,8 +110,13 @@ module _ (N : Note) (c : Call) where
   pub refusal-lowest : (n j : ℕ) → isPreview c ≡ false → called N c ≡ refused n → Applies j (rulesOf N c) → n ≤ j
   refusal-lowest n j h e a = refused-lowest 0 (rulesOf N c) tt n j (rules-rise N c h) (sym (by-rules N c) ∙ ap judged e) a
 
--- THEOREM: a preview is refused as the insertion would be.
-pub preview-refused : (N : Note) (p q n : ℕ) (piece : List ℕ) → called N (insert p piece) ≡ refused n → judged (called N (look (preview p piece q))) ≡ refused n
-preview-refused N p q n piece e =
-    by-rules N (look (preview p piece q))
-    ∙ more-refused (insertRules N p piece) ((3, past q (length (putIn p (decode piece) (N .text)))) ∷ []) tt tt n (sym (by-rules N (insert p piece)) ∙ ap judged e)
+-- THEOREM: a preview is refused as the insertion would be; only where that is accepted, by 3 for a place past the joined end.
+module _ (N : Note) (p q : ℕ) (piece : List ℕ) where
+  abbrev own : List Rule
+  own = (3, past q (length (putIn p (decode piece) (N .text)))) ∷ []
+
+  pub preview-refused : (n : ℕ) → called N (insert p piece) ≡ refused n → judged (called N (look (preview p piece q))) ≡ refused n
+  preview-refused n e = by-rules N (look (preview p piece q)) ∙ more-refused (insertRules N p piece) own tt tt n (sym (by-rules N (insert p piece)) ∙ ap judged e)
+
+  pub preview-else : (r : Said × Note) → called N (insert p piece) ≡ value r → judged (called N (look (preview p piece q))) ≡ ruled own tt
+  preview-else r e = by-rules N (look (preview p piece q)) ∙ more-passed (insertRules N p piece) own tt tt tt (sym (by-rules N (insert p piece)) ∙ ap judged e)

@@ -26,9 +26,6 @@ module _ {A B : Type 0} (f : A → B) where
   mapped-value (value a) b e = (a, refl, cc)
   mapped-value (refused n) b e = absurd (let z : _≡_ {A = ℕ} 0 1 = cc in omega arith)
 
-pub mapped-twice : {A B C : Type 0} (f : A → B) (g : B → C) (rs : List Rule) (a : A) → mapped g (mapped f (ruled rs a)) ≡ ruled rs (g (f a))
-mapped-twice f g rs a = ap (mapped g) (mapped-ruled f rs a) ∙ mapped-ruled g rs (f a)
-
 -- ── accepted ──
 
 -- none of them applies

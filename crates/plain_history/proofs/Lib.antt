@@ -1,6 +1,6 @@
 pub mod Numbers
 pub mod Follow
-pub mod Whole
+pub mod Kept
 pub mod Words
 pub mod Named
 pub mod Shift

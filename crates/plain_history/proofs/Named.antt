@@ -12,10 +12,11 @@ use Rattle.plain_note.specs.Note.{Note}
 use Rattle.plain_calls.specs.Calls.{Call, Call.insert, Call.remove, Call.setMark, Call.dropMark, Call.look, Said, called, left, afterAll}
 use Rattle.plain_calls.specs.Fits.{Fits}
 use Rattle.plain_calls.proofs.Accepted.{came}
+use Rattle.plain_calls.proofs.Fits.{fits-left}
 use Rattle.plain_history.specs.History.{Told, upFrom, begun, tell, told, toldAll, newIn, entered}
 use Rattle.plain_history.specs.Words.{Numbers}
 use Rattle.plain_history.proofs.Numbers.{at-before, at-new, at-behind, up-length, up-at, zone}
-use Rattle.plain_history.proofs.Whole.{Kept, kept, kept-start}
+use Rattle.plain_history.proofs.Kept.{Kept, kept, kept-start}
 
 -- the text by numbers: `chars` are all that ever entered
 record Spelt (text order chars : List ℕ) (next : ℕ) : Type 0 where
@@ -68,10 +69,11 @@ module _ (k : ℕ) (N : Note) (t : Told) (chars : List ℕ) (w : Kept k N t) (r 
       go (value a) e = spelt-accepted c a e
       go (refused n) e = rw (none-new c n, append-nil chars) r
 
-spelt-all : (k : ℕ) (N : Note) (t : Told) (cs : List Call) (chars : List ℕ) → Kept k N t → SpeltAs N t chars → SpeltAs (afterAll N cs) (toldAll k t N cs) (entered chars N cs)
-spelt-all k N t [] chars w r = r
-spelt-all k N t (c ∷ cs) chars w r =
-    spelt-all k (left N (called N c)) (told k t c (called N c)) cs (chars ++ newIn c (called N c)) (kept k N t w c) (spelt k N t chars w r c)
+spelt-all : (k : ℕ) (N : Note) (t : Told) (cs : List Call) (chars : List ℕ) → Fits N → Kept k N t → SpeltAs N t chars
+    → SpeltAs (afterAll N cs) (toldAll k t N cs) (entered chars N cs)
+spelt-all k N t [] chars f w r = r
+spelt-all k N t (c ∷ cs) chars f w r =
+    spelt-all k (left N (called N c)) (told k t c (called N c)) cs (chars ++ newIn c (called N c)) (fits-left N f c) (kept k N t f w c) (spelt k N t chars w r c)
 
 spelt-start : (k : ℕ) (N : Note) → SpeltAs N (begun k N) (N .text)
 unfolding begun
@@ -83,4 +85,4 @@ spelt-start k N = record {
 -- THEOREM: the char at place i is the one that entered under the number told there
 pub chars-numbered : (N : Note) → Fits N → (cs : List Call) (k i : ℕ) → i < length (toldAll k (begun k N) N cs .order)
     → getD (afterAll N cs .text) i 0 ≡ getD (entered (N .text) N cs) (getD (toldAll k (begun k N) N cs .order) i 0) 0
-chars-numbered N f cs k i h = spelt-all k N (begun k N) cs (N .text) (kept-start k N f) (spelt-start k N) .each i h
+chars-numbered N f cs k i h = spelt-all k N (begun k N) cs (N .text) f (kept-start k N f) (spelt-start k N) .each i h

@@ -16,7 +16,7 @@ use Rattle.plain_calls.specs.Calls.{Call, Call.insert, Call.remove, Call.setMar
 use Rattle.plain_calls.specs.Fits.{Fits}
 use Rattle.plain_history.specs.History.{Behind, Behind.none, Behind.followers, Told, upFrom, setAt, joined, begun, rewritten, names, tell, told, toldAll, firstIn, stands}
 use Rattle.plain_history.specs.Words.{Numbers, drops, Undropped, Directly, Stood}
-use Rattle.plain_history.proofs.Whole.{kept-all, kept-start, marks-follow}
+use Rattle.plain_history.proofs.Kept.{kept-all, kept-start, marks-follow}
 
 -- ── the place ──
 
@@ -104,7 +104,7 @@ set-mark-stands N f a b p k M e u = stood-all N f (a ++ (setMark p ∷ b)) k liv
 -- THEOREM: one for each char, each its own
 pub numbers-own : (N : Note) → Fits N → (cs : List Call) (k : ℕ)
     → (length (toldAll k (begun k N) N cs .order) ≡ length (afterAll N cs .text)) × Numbers (toldAll k (begun k N) N cs .order) (toldAll k (begun k N) N cs .next)
-numbers-own N f cs k = let r = kept-all k N (begun k N) cs (kept-start k N f) in (r .same, r .numbers)
+numbers-own N f cs k = let r = kept-all k N (begun k N) cs f (kept-start k N f) in (r .same, r .numbers)
 
 -- THEOREM: they do not depend on the mark that is asked for
 abbrev Alike : Told → Told → Type 0
