@@ -69,17 +69,17 @@ pub marks-moved : (s e : ℕ) (new : List ℕ) (N : Note) (k : ℕ) → markOf (
 marks-moved s e new N k = List·getD-map (moved (movedTo s e (length new))) (N .marks) k free
 
 module _ (s e m q : ℕ) where
-  pub moved-before : q < s → movedTo s e m q ≡ q
+  pub moved-behind : s ≤ e → e ≤ q → movedTo s e m q ≡ q - (e - s) + m
   unfolding movedTo
-  moved-before h = rw (lt-ltb q s h)
+  moved-behind h k = let z : s ≤ q = omega arith in rw (le-ltb q s z, le-ltb q e k)
 
   pub moved-inside : s ≤ q → q < e → movedTo s e m q ≡ s
   unfolding movedTo
   moved-inside h k = rw (le-ltb q s h, lt-ltb q e k)
 
-  pub moved-behind : s ≤ e → e ≤ q → movedTo s e m q ≡ q - (e - s) + m
+  pub moved-before : q < s → movedTo s e m q ≡ q
   unfolding movedTo
-  moved-behind h k = let z : s ≤ q = omega arith in rw (le-ltb q s z, le-ltb q e k)
+  moved-before h = rw (lt-ltb q s h)
 
   -- a place of a text is moved to one of the edited text
   pub moved-within : (l : ℕ) → s ≤ e → e ≤ l → q ≤ l → movedTo s e m q ≤ s + m + (l - e)

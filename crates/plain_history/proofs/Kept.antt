@@ -37,7 +37,7 @@ module _ (k : ℕ) (N : Note) (t : Told) (f : Fits N) (r : Kept k N t) where
         stand = rw (marks-moved s e new N k) (stand-edited (markOf N k) (t .behind) (t .order) (t .next) s e (length new) h v one (r .numbers) (r .stand));
       }
 
-  -- mark j set or freed
+  -- a mark set, and one freed
   kept-set : (p : ℕ) → p ≤ length (N .text) → lowest (N .marks) < 256 → Kept k (marked (lowest (N .marks)) (at p) N) (tell k t (setMark p) (is (lowest (N .marks))))
   unfolding tell
   kept-set p h l =

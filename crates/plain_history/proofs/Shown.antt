@@ -38,7 +38,9 @@ asked none xs = []
 asked (followers f) xs = map f xs
 
 -- the numbers: a is 0, the first b is 1, x is 2, y is 3, and the second b is 4
-pub story-told : (N .text ≡ 0x61 ∷ 0x78 ∷ 0x62 ∷ 0x79 ∷ []) × (t .order ≡ 0 ∷ 2 ∷ 4 ∷ 3 ∷ []) × (asked (t .behind) (0 ∷ 1 ∷ 2 ∷ 3 ∷ 4 ∷ []) ≡ false ∷ true ∷ false ∷ true ∷ false ∷ [])
+pub story-told :
+    (N .text ≡ 0x61 ∷ 0x78 ∷ 0x62 ∷ 0x79 ∷ []) × (t .order ≡ 0 ∷ 2 ∷ 4 ∷ 3 ∷ [])
+    × (asked (t .behind) (0 ∷ 1 ∷ 2 ∷ 3 ∷ 4 ∷ []) ≡ false ∷ true ∷ false ∷ true ∷ false ∷ [])
 unfolding called tell begun encode validUtf8 decode breaks
 story-told = (refl, refl, refl)
 

@@ -1,5 +1,6 @@
--- Which chars follow a mark. Here, and nowhere else, each char has a number of its own, given when it enters the note or at the start of the sequence:
--- a char typed again is another char. What is told of a mark is read from the calls and their answers, never from where the mark stands.
+-- Which chars follow a mark. In these definitions, and nowhere else, each char has a number of its own, given when it enters the note or at the
+-- start of the sequence: a char typed again is another char. What is told of a mark is read from the calls and their answers; of where the mark
+-- stands, only its place at the start.
 use mathlib.Core.Bool.{Bool, false, _&&_, _||_, cond}
 use mathlib.Core.List.{List, [], _∷_, _++_}
 use Prim.Native.Nat.{ℕ, zero, suc, _+_}
