@@ -15,10 +15,6 @@ use Rattle.plain_note.specs.Note.{Note, Mark, Mark.free, Mark.at}
 use Rattle.plain_calls.specs.Marks.{isFree, markOf, lowest, movedTo, moved}
 use Rattle.plain_calls.specs.Calls.{edited, marked}
 
-pub is-free : (m : Mark) → isFree m ≡ true → m ≡ free
-is-free free e = refl
-is-free (at q) e = absurd (false≢true e)
-
 -- ── the number that is taken next ──
 
 -- THEOREM: it is free, and every lower one is live
@@ -35,9 +31,9 @@ below-live (free ∷ ms) i h = absurd (not-suc-le-zero h)
 below-live (at q ∷ ms) zero h = refl
 below-live (at q ∷ ms) (suc i) h = below-live ms i (omega arith)
 
--- THEOREM: one of the marks is free exactly if it is one of their numbers
-pub some-free : (ms : List Mark) → (lowest ms < length ms) ↔ ((i : ℕ) × (i < length ms) × (isFree (getD ms i free) ≡ true))
-some-free ms = (
+-- THEOREM: it is one of the n numbers exactly if one of the n marks is free
+pub some-free : (ms : List Mark) (n : ℕ) → length ms ≡ n → (lowest ms < n) ↔ ((k : ℕ) × (k < n) × (isFree (getD ms k free) ≡ true))
+some-free ms n e = (
   λ h. (lowest ms, h, ap isFree (lowest-free ms)),
   λ r. cut (r .0) (lowest ms) (λ k. absurd (false≢true (sym (below-live ms (r .0) k) ∙ r .2))) (λ k. omega (arith, r .1)),
 )
@@ -73,17 +69,17 @@ pub marks-moved : (s e : ℕ) (new : List ℕ) (N : Note) (k : ℕ) → markOf (
 marks-moved s e new N k = List·getD-map (moved (movedTo s e (length new))) (N .marks) k free
 
 module _ (s e m q : ℕ) where
-  pub moved-before : q < s → movedTo s e m q ≡ q
+  pub moved-behind : s ≤ e → e ≤ q → movedTo s e m q ≡ q - (e - s) + m
   unfolding movedTo
-  moved-before h = rw (lt-ltb q s h)
+  moved-behind h k = let z : s ≤ q = omega arith in rw (le-ltb q s z, le-ltb q e k)
 
   pub moved-inside : s ≤ q → q < e → movedTo s e m q ≡ s
   unfolding movedTo
   moved-inside h k = rw (le-ltb q s h, lt-ltb q e k)
 
-  pub moved-behind : s ≤ e → e ≤ q → movedTo s e m q ≡ q - (e - s) + m
+  pub moved-before : q < s → movedTo s e m q ≡ q
   unfolding movedTo
-  moved-behind h k = let z : s ≤ q = omega arith in rw (le-ltb q s z, le-ltb q e k)
+  moved-before h = rw (lt-ltb q s h)
 
   -- a place of a text is moved to one of the edited text
   pub moved-within : (l : ℕ) → s ≤ e → e ≤ l → q ≤ l → movedTo s e m q ≤ s + m + (l - e)
