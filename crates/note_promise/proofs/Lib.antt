@@ -1,2 +1,4 @@
 pub mod Tree
 pub mod Shape
+pub mod Beside
+pub mod Edit
