@@ -20,10 +20,12 @@ pub(crate) enum Call {
     LineToChar,
     CharToUtf16Cu,
     Utf16CuToChar,
+    MarkPlace,
+    MarkLine,
 }
 
 // The calls in the order of their numbers, from 1.
-const CALLS: [Call; 14] = [
+const CALLS: [Call; 16] = [
     Call::LenBytes,
     Call::LenChars,
     Call::LenUtf16Cu,
@@ -38,26 +40,30 @@ const CALLS: [Call; 14] = [
     Call::LineToChar,
     Call::CharToUtf16Cu,
     Call::Utf16CuToChar,
+    Call::MarkPlace,
+    Call::MarkLine,
 ];
 
 fn ask(call: Call, m: &[u8], index: usize) -> Number
     ensures { λ r. ⌜ number r ≡ asked call (now (m .entry)) index ⌝ }
 {
     match call {
-        Call::LenBytes => readings::len_bytes(m),
-        Call::LenChars => readings::len_chars(m),
-        Call::LenUtf16Cu => readings::len_utf16_cu(m),
-        Call::LenLines => readings::len_lines(m),
-        Call::Slots => readings::slots(m),
-        Call::EditNumber => readings::edit_number(m),
-        Call::ByteToChar => readings::byte_to_char(m, index),
-        Call::CharToByte => readings::char_to_byte(m, index),
-        Call::ByteToLine => readings::byte_to_line(m, index),
-        Call::LineToByte => readings::line_to_byte(m, index),
-        Call::CharToLine => readings::char_to_line(m, index),
-        Call::LineToChar => readings::line_to_char(m, index),
-        Call::CharToUtf16Cu => readings::char_to_utf16_cu(m, index),
-        Call::Utf16CuToChar => readings::utf16_cu_to_char(m, index),
+        Call::LenBytes => note::len_bytes(m),
+        Call::LenChars => note::len_chars(m),
+        Call::LenUtf16Cu => note::len_utf16_cu(m),
+        Call::LenLines => note::len_lines(m),
+        Call::Slots => note::slots(m),
+        Call::EditNumber => note::edit_number(m),
+        Call::ByteToChar => note::byte_to_char(m, index),
+        Call::CharToByte => note::char_to_byte(m, index),
+        Call::ByteToLine => note::byte_to_line(m, index),
+        Call::LineToByte => note::line_to_byte(m, index),
+        Call::CharToLine => note::char_to_line(m, index),
+        Call::LineToChar => note::line_to_char(m, index),
+        Call::CharToUtf16Cu => note::char_to_utf16_cu(m, index),
+        Call::Utf16CuToChar => note::utf16_cu_to_char(m, index),
+        Call::MarkPlace => note::mark_place(m, index),
+        Call::MarkLine => note::mark_line(m, index),
     }
 }
 
@@ -68,7 +74,7 @@ pub(crate) fn ask_by(call: u8, m: &[u8], index: usize) -> Number
     if call == 0 {
         return Number::Refused(Refusal::Field);
     }
-    if 14 < call {
+    if 16 < call {
         return Number::Refused(Refusal::Field);
     }
     let calls = CALLS;

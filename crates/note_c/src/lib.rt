@@ -16,7 +16,8 @@ ghost use Rattle.runs.specs.Runs.{runOf, previewOf};
 ghost use Rattle.note_c.specs.Asked.{askedBy};
 ghost use Rattle.note_c.specs.Told.{code, Copied};
 
-fn code_of(v: Verdict) -> u8
+// What C is told of a verdict: 0, or the number of the refusal.
+pub fn code_of(v: Verdict) -> u8
     ensures { λ r. ⌜ r ≡ code (verdict v) ⌝ }
 {
     match v {
@@ -25,8 +26,8 @@ fn code_of(v: Verdict) -> u8
     }
 }
 
-// Writes a value through `out`; a refusal writes nothing.
-fn tell(a: Number, out: &mut u64) -> u8
+// The same of a number, which is written through `out`; a refusal writes nothing.
+pub fn tell(a: Number, out: &mut u64) -> u8
     ensures { λ r. ⌜ (r ≡ code (number a)) × (now (out .exit) ≡ kept (now (out .entry)) (number a)) ⌝ }
 {
     match a {
@@ -42,14 +43,14 @@ fn tell(a: Number, out: &mut u64) -> u8
 pub extern "C" fn wol_note_open(m: &mut [u8], n: usize) -> u8
     ensures { λ r. ⌜ (r ≡ code (opens (now (m .entry)) n)) × (now (m .exit) ≡ kept (now (m .entry)) (opens (now (m .entry)) n)) ⌝ }
 {
-    code_of(opening::open(m, n))
+    code_of(note::open(m, n))
 }
 
 #[no_mangle]
 pub extern "C" fn wol_note_check(m: &[u8]) -> bool
     ensures { λ r. ⌜ r ≡ wellFormed (now (m .entry)) ⌝ }
 {
-    memory::check(m)
+    note::check(m)
 }
 
 // The call with a number, as `calls` has them, and its value through `out`.
@@ -65,7 +66,7 @@ pub extern "C" fn wol_note_read(call: u8, m: &[u8], index: usize, out: &mut u64)
 pub extern "C" fn wol_note_copy(m: &[u8], s: usize, e: usize, out: &mut [u8], count: &mut u64) -> u8
     ensures { λ r. ⌜ Copied (ofNote (now (m .entry)) (λ N. copied N s e (length (now (out .entry))))) (now (out .entry)) (now (count .entry)) r (now (out .exit)) (now (count .exit)) ⌝ }
 {
-    tell(copy_out::copy_out(m, s, e, out), count)
+    tell(note::copy_out(m, s, e, out), count)
 }
 
 // The run itself, not a copy, through `part`: an empty one where it is refused.
@@ -73,8 +74,8 @@ pub extern "C" fn wol_note_copy(m: &[u8], s: usize, e: usize, out: &mut [u8], co
 pub extern "C" fn wol_note_run<'a>(m: &'a [u8], p: usize, part: &mut &'a [u8]) -> u8
     ensures { λ r. ⌜ (r ≡ code (ofNote (now (m .entry)) (λ N. readFrom N p))) × (now (now (part .exit)) ≡ runOf (now (m .entry)) p) ⌝ }
 {
-    *part = runs::run(m, p);
-    code_of(runs::run_refusal(m, p))
+    *part = note::run(m, p);
+    code_of(note::run_refusal(m, p))
 }
 
 // The same of a preview.
@@ -88,6 +89,6 @@ pub extern "C" fn wol_note_preview<'a>(
 ) -> u8
     ensures { λ r. ⌜ (r ≡ code (ofNote (now (m .entry)) (λ N. previewed N p (now (piece .entry)) q))) × (now (now (part .exit)) ≡ previewOf (now (m .entry)) p (now (piece .entry)) q) ⌝ }
 {
-    *part = runs::preview(m, piece, p, q);
-    code_of(runs::preview_refusal(m, piece, p, q))
+    *part = note::preview(m, piece, p, q);
+    code_of(note::preview_refusal(m, piece, p, q))
 }
