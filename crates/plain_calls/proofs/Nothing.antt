@@ -9,7 +9,7 @@ use lib.IntN.{pos}
 use lib.ListN.{length, take-append-drop}
 use borrow.Author.Tests.{eq-eqb, eqb-true}
 use Rattle.plain.specs.Chars.{encode}
-use Rattle.plain.specs.Utf8.{decode}
+use Rattle.plain.specs.Utf8.{validUtf8, decode}
 use Rattle.plain.specs.Count.{lines}
 use Rattle.plain.specs.Outcome.{Outcome.value}
 use Rattle.plain.proofs.Logic.{cut}
@@ -75,15 +75,19 @@ edit-small s e new N h = go (eqb s e && eqb (length new) 0)
     go true = h
     go false = omega arith
 
+-- a piece that is not empty has a char
+pub some-chars : (piece : List ℕ) → validUtf8 piece ≡ true → 0 < length piece → 0 < length (decode piece)
+some-chars piece v h = go (decode piece) (valid-sound piece v .1)
+  where
+    go : (cs : List ℕ) → encode cs ≡ piece → 0 < length cs
+    go [] f = unfold encode in omega (arith, ap length f)
+    go (c ∷ cs) f = omega arith
+
 -- THEOREM: a piece that is not empty, and a range that is not
 pub insert-changes : (N : Note) (p : ℕ) (piece : List ℕ) (r : Said × Note) → called N (insert p piece) ≡ value r → 0 < length piece → Changes N (r .1)
 insert-changes N p piece r e h =
     let w = came N (insert p piece) r e in
-    rw (w .1) (edited-changes p p (decode piece) N (omega arith) (w .0 .here) (λ z. some (decode piece) (valid-sound piece (w .0 .valid) .1) (omega arith)))
-  where
-    some : (cs : List ℕ) → encode cs ≡ piece → length cs ≡ 0 → ⊥
-    some [] f z = unfold encode in omega (arith, ap length f)
-    some (c ∷ cs) f z = omega arith
+    rw (w .1) (edited-changes p p (decode piece) N (omega arith) (w .0 .here) (λ z. omega (arith, some-chars piece (w .0 .valid) h)))
 
 pub remove-changes : (N : Note) (s e : ℕ) (r : Said × Note) → called N (remove s e) ≡ value r → s < e → Changes N (r .1)
 remove-changes N s e r f h =
