@@ -7,7 +7,7 @@ use native.Mathlib.Omega.{arith}
 use lib.Dec.{leb, eqb}
 use lib.ListN.{length}
 use borrow.Author.Tests.{eq-eqb, ne-eqb, le-leb, lt-leb, lt-ltb, le-ltb}
-use Rattle.plain.specs.Outcome.{Outcome.value, Outcome.refused, past, mapped}
+use Rattle.plain.specs.Outcome.{Outcome, Outcome.value, Outcome.refused, past, mapped, kept}
 use Rattle.plain.proofs.Logic.{or-left, or-right}
 use Rattle.plain.proofs.Outcome.{one-applies, one-passed}
 use Rattle.plain_calls.specs.Marks.{lowest, movedTo, raised}
@@ -67,6 +67,10 @@ module _ (m : List ℕ) (h : 6144 ≤ length m) (k : ℕ) (l : k < 256) (q : ℕ
       wrote-done _ m r _ after (mark-it m k (markPut m k q) h l)
       (w .answered ∙ ap (mapped (λ t. tt)) (mark-it x k (livePut x k 1) g l))
       (live-there x g k l 1 r after w ∙ ap (λ (y : List ℕ). livePut y k 1) p)
+
+  pub set-there : (r : Verdict) (after : List ℕ) → Wrote (markSet m k q) m r after → after ≡ markPut m k q
+  unfolding markSet
+  set-there r after w = w .memory ∙ ap (λ (o : Outcome (List ℕ)). kept m o) (mark-it m k (markPut m k q) h l)
 
 -- an edit followed: the marks moved, and then the edit number raised
 module _ (m : List ℕ) (s e new : ℕ) where

@@ -5,3 +5,4 @@ pub mod Edit
 pub mod Mark
 pub mod Promise
 pub mod Calls
+pub mod MarkCalls

@@ -26,6 +26,7 @@ use Rattle.held.proofs.Keeps.{kept-same}
 use Rattle.edited.specs.Edited.{Holding, Edited}
 use Rattle.marks.specs.MarkBytes.{editedPut}
 use Rattle.note_promise.specs.Called.{Left, Called, EditCalled, MarkCalled, followed}
+use Rattle.note_promise.proofs.Shape.{formed-shaped}
 use Rattle.note_promise.proofs.Edit.{edit-left, edit-head}
 
 clash : {A X : Type 0} (q : ℕ) (a : A) → refused q ≡ value a → X
@@ -164,3 +165,10 @@ module _ (o : Note → Outcome (List ℕ)) (s e : ℕ) (piece m : List ℕ) wher
           (subst (λ (x : List ℕ). Left m (edited s e new (noteOf m)) x) (sym h) (record { formed = came .ok; note = sym same; long = refl; beyond = refl }))
           (subst (λ (x : List ℕ). Kept (followed m s e (length new)) x) (sym h) (subst (λ (t : Bool). Kept (cond t m (editedPut m s e (length new))) m) (sym none) (kept-same m)))
           (λ x y. h)
+
+-- memory in which an edit was accepted is longer than its head
+pub accepted-long : (o : Note → Outcome (List ℕ)) (idle : Type 0) (m : List ℕ) (r : Change) (a : List ℕ) → Edited o idle m r a → (d : ℤ) → change r ≡ value d → 6144 ≤ length a
+accepted-long o idle m r a w d f =
+    let n = comes o 0 0 [] m d (sym f ∙ w .answered) in
+    let h = w .edited (n .text) (note-called m o (n .ok) ∙ n .is) in
+    omega (arith, h .long, formed-shaped m (n .ok) .room)

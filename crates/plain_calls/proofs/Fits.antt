@@ -25,7 +25,6 @@ use Rattle.plain_calls.specs.Fits.{Placed, Fits}
 use Rattle.plain_calls.proofs.Marks.{same-or-not, marked-at, marked-free, marked-other, marks-moved, moved-within}
 use Rattle.plain_calls.proofs.Rules.{passed}
 use Rattle.plain_calls.proofs.Accepted.{came}
-use Rattle.plain_calls.proofs.Nothing.{edit-small}
 
 -- ── an edit ──
 
@@ -58,13 +57,12 @@ module _ (N : Note) (r : Fits N) where
     size = room;
     count = length-map (N .marks) (moved (movedTo s e (length new))) ∙ r .count;
     placed = λ j. rw (marks-moved s e new N j) (placed-moved (markOf N j) s e new (N .text) h k (r .placed j));
-    number = edit-small s e new N (r .number);
   }
 
   -- ── one mark set or freed ──
 
   fits-marked : (j : ℕ) (m : Mark) → ((k : ℕ) → Placed (N .text) (markOf (marked j m N) k)) → Fits (marked j m N)
-  fits-marked j m p = record { least = r .least; most = r .most; scalars = r .scalars; size = r .size; count = length-set (N .marks) j m ∙ r .count; placed = p; number = r .number }
+  fits-marked j m p = record { least = r .least; most = r .most; scalars = r .scalars; size = r .size; count = length-set (N .marks) j m ∙ r .count; placed = p }
 
   fits-set : (j p : ℕ) → j < 256 → p ≤ length (N .text) → Fits (marked j (at p) N)
   fits-set j p h k =
@@ -130,6 +128,5 @@ fits-opened n lent N e =
       size = omega (arith, bytes-none);
       count = length-replicate 256 free;
       placed = λ k. rw (all-free 256 k) tt;
-      number = omega arith;
     } in
     (w .1, rw (w .1) fits)

@@ -1,7 +1,7 @@
 -- A note that lent memory can hold: what its being well formed says of the note alone.
 use mathlib.Core.Path.{_≡_}
 use mathlib.Core.Bool.{true}
-use Prim.Native.Nat.{ℕ, _^_, _≤_, _<_}
+use Prim.Native.Nat.{ℕ, _≤_}
 use lib.ListN.{length}
 use mathlib.Core.List.{List}
 use Rattle.plain.specs.Chars.{allScalar}
@@ -21,4 +21,3 @@ pub record Fits (N : Note) : Type 0 where
   pub size : bytes (N .text) ≤ limit (N .n)
   pub count : length (N .marks) ≡ 256
   pub placed : (k : ℕ) → Placed (N .text) (markOf N k)
-  pub number : N .edit < 2 ^ 32
