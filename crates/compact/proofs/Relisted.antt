@@ -1,6 +1,6 @@
 -- A list written with its leaves and each entry counted anew: one entry, and the loop of `relist`.
 use mathlib.Core.Path.{_≡_, refl, sym, ap, subst, _∙_}
-use mathlib.Core.Bool.{Bool, true, false, not}
+use mathlib.Core.Bool.{Bool, true, false}
 use mathlib.Core.List.{List}
 use Prim.Native.Nat.{ℕ, suc, _+_, _-_, _≤_, _<_}
 use native.Mathlib.Omega.{arith}
@@ -9,14 +9,13 @@ use lib.ListN.{length, getD, set, replicate, length-append, length-replicate}
 use lib.Seq.{getD-set-same, getD-set-other}
 use borrow.Author.Tests.{eqb-true, eqb-false}
 use Rattle.plain.specs.Utf8.{validUtf8, decode}
-use Rattle.plain.specs.Count.{countIf, breaks}
 use Rattle.plain.specs.Place.{isStart, isWide}
 use Rattle.plain.specs.Outcome.{Outcome, Outcome.value, past, kept, mapped}
 use Rattle.answer.specs.Answers.{verdict, refusalNumber}
 use Rattle.answer.specs.declared.Verdict.{Verdict}
 use Rattle.answer.specs.declared.Verdict.the-variants as Verdict·case
 use Rattle.leaf_bytes.proofs.Opened.{never}
-use Rattle.text_info.specs.Info.{infoOf, leafInfo}
+use Rattle.text_info.specs.Info.{infoOf}
 use Rattle.text_info.specs.declared.TextInfo.{TextInfo}
 use Rattle.text_info.proofs.Counts.{count-le, breaks-le, raw-text}
 use Rattle.pool.specs.declared.Kid.{Kid}

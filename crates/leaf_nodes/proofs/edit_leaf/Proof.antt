@@ -1,5 +1,4 @@
 -- `edit_leaf` meets its contract: the slot holds a leaf and the call is checked, or it is refused.
-use native.Mathlib.Omega.{arith}
 use Rattle.nodes.proofs.Heads.{not-outside, leaf-says, head-leaf, head-no-leaf}
 use Rattle.nodes.proofs.Copied.{wrote-not, edit-none}
 use Rattle.leaf_nodes.proofs.Edited.{edit-not, edit-done}
