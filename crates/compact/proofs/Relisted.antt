@@ -1,6 +1,6 @@
 -- A list written with its leaves and each entry counted anew: one entry, and the loop of `relist`.
 use mathlib.Core.Path.{_≡_, refl, sym, ap, subst, _∙_}
-use mathlib.Core.Bool.{Bool, true, false, not}
+use mathlib.Core.Bool.{Bool, true, false}
 use mathlib.Core.List.{List}
 use Prim.Native.Nat.{ℕ, suc, _+_, _-_, _≤_, _<_}
 use native.Mathlib.Omega.{arith}
@@ -9,16 +9,15 @@ use lib.ListN.{length, getD, set, replicate, length-append, length-replicate}
 use lib.Seq.{getD-set-same, getD-set-other}
 use borrow.Author.Tests.{eqb-true, eqb-false}
 use Rattle.plain.specs.Utf8.{validUtf8, decode}
-use Rattle.plain.specs.Count.{countIf, breaks}
 use Rattle.plain.specs.Place.{isStart, isWide}
 use Rattle.plain.specs.Outcome.{Outcome, Outcome.value, past, kept, mapped}
 use Rattle.answer.specs.Answers.{verdict, refusalNumber}
 use Rattle.answer.specs.declared.Verdict.{Verdict}
 use Rattle.answer.specs.declared.Verdict.the-variants as Verdict·case
 use Rattle.leaf_bytes.proofs.Opened.{never}
-use Rattle.text_info.specs.Info.{infoOf, leafInfo}
+use Rattle.text_info.specs.Info.{infoOf}
 use Rattle.text_info.specs.declared.TextInfo.{TextInfo}
-use Rattle.text_info.proofs.Counts.{count-le, breaks-le, info-is}
+use Rattle.text_info.proofs.Counts.{count-le, breaks-le, raw-text}
 use Rattle.pool.specs.declared.Kid.{Kid}
 use Rattle.pool.specs.Slot.{slotOf, lenOf, regionOf, entries, noKid, Fits}
 use Rattle.pool.specs.Calls.{outside, Wrote}
@@ -46,15 +45,11 @@ use Rattle.compact.proofs.Parts.{slot-other}
 -- ── the counts of a leaf have 32 bits ──
 
 small-info : (s : List ℕ) → validUtf8 s ≡ true → length s ≤ 512 → (k : ℕ) → k < 4294967296 → Fits (record { slot = k; info = infoOf (decode s) })
-unfolding leafInfo
 small-info s v h k g =
-    let a = info-is s v (length s) (countIf isStart s) (countIf isWide s) (breaks s) h refl refl refl refl in
-    let b = two-passed 5 11 (not (validUtf8 s)) (past (length s) 512) (infoOf (decode s)) (ap not v) (past-no (length s) 512 h) in
-    let e : _≡_ {A = TextInfo} (infoOf (decode s)) (record { bytes = length s; chars = countIf isStart s; «utf16_surrogates» = countIf isWide s; «line_breaks» = breaks s }) = cc in
     let x = count-le isStart s in
     let y = count-le isWide s in
     let z = breaks-le s in
-    subst (λ (i : TextInfo). Fits (record { slot = k; info = i })) (sym e)
+    subst (λ (i : TextInfo). Fits (record { slot = k; info = i })) (raw-text s v)
     (record { slot = g; bytes = omega arith; chars = omega arith; surrogates = omega arith; breaks = omega arith })
 
 pub counts-fit : (m : List ℕ) (s : ℕ) → LeafText m s → s < 4294967296 → Fits (record { slot = s; info = countsOf m s })

@@ -1,10 +1,13 @@
 -- From the tests of the code to the definitions: an edit of a part of a leaf, and one level down.
 use mathlib.Core.Path.{_≡_, refl, sym, ap, subst, _∙_}
-use mathlib.Core.List.{List}
-use Prim.Native.Nat.{ℕ, zero, suc, _-_, _≤_, _<_}
+use mathlib.Core.List.{List, [], _∷_}
+use Prim.Native.Nat.{ℕ, zero, suc, _+_, _-_, _≤_, _<_}
 use native.Mathlib.Omega.{arith}
-use lib.ListN.{length}
+use lib.ListN.{length, drop}
+use borrow.Author.Tests.{lt-ltb, le-ltb}
+use Rattle.plain.specs.Place.{isStart, startChars, placeOf}
 use Rattle.plain.specs.Outcome.{Outcome, Outcome.value, Outcome.refused}
+use Rattle.plain.proofs.Logic.{cut, bit-le}
 use Rattle.answer.specs.declared.Refusal.{Refusal}
 use Rattle.answer.specs.declared.Refusal.the-variants.{Side}
 use Rattle.text_info.specs.declared.TextSum.{TextSum}
@@ -23,6 +26,33 @@ use Rattle.descent.specs.declared.Part.{Part}
 use Rattle.descent.specs.declared.Part.the-variants as Part·case
 use Rattle.descent.specs.Descent.{spanInside, insidePart, leafPart, risenAfter, editedAt}
 use Rattle.descent.proofs.Inside.{span-low, span-end, span-is}
+
+-- ── chars behind others ──
+
+-- at most one char begins at a byte: so a char is found by its number behind another
+place-behind : (w : ℕ → ℕ) → ((x : ℕ) → w x ≤ 1) → (t : List ℕ) (a b : ℕ) → placeOf w t (a + b) ≡ placeOf w t a + placeOf w (drop (placeOf w t a) t) b
+unfolding placeOf
+place-behind w one [] a b = refl
+place-behind w one (x ∷ t) a b =
+    cut a (w x)
+    (λ h. let z : a + b ≡ b = omega (arith, one x) in rw (lt-ltb a (w x) h) (omega (arith, ap (placeOf w (x ∷ t)) z)))
+    (λ h.
+    let z : a + b - w x ≡ a - w x + b = omega arith in
+    rw (le-ltb a (w x) h, le-ltb (a + b) (w x) (omega arith)) (omega (arith, place-behind w one t (a - w x) b, ap (placeOf w t) z)))
+
+start-one : (x : ℕ) → startChars x ≤ 1
+unfolding startChars
+start-one x = bit-le (isStart x)
+
+pub end-is : (text : List ℕ) (at k : ℕ) → k < at → (i : ℕ) → i ≡ byteIn text (at - k) → (rest : List ℕ) → rest ≡ drop i text → (j : ℕ) → j ≡ byteIn rest k → i + j ≡ byteIn text at
+end-is text at k more i start rest is j end =
+    let z : at ≡ at - k + k = omega arith in
+    sym
+    (ap (byteIn text) z
+    ∙ place-behind startChars start-one text (at - k) k
+    ∙ ap (λ (n : ℕ). n + byteIn (drop n text) k) (sym start)
+    ∙ ap (λ (l : List ℕ). i + byteIn l k) (sym is)
+    ∙ ap (λ (n : ℕ). i + n) (sym end))
 
 -- ── a part of a leaf ──
 

@@ -2,6 +2,7 @@
 use answer::Refusal;
 use child_search::Measure;
 use edits::Edit;
+use leaf_parts::behind;
 use leaf_parts::byte_in;
 use leaf_parts::text_at;
 use leaf_step::leaf_step;
@@ -28,11 +29,11 @@ fn edit_inside(m: &mut [u8], slot: usize, at: usize, k: usize, piece: &[u8]) -> 
         return Edit::Refused(Refusal::Side);
     }
     let text = text_at(m, slot);
-    let end = byte_in(text, at);
+    let start = byte_in(text, at - k);
+    let end = start + byte_in(behind(text, start), k);
     if text.len() <= end {
         return Edit::Refused(Refusal::Side);
     }
-    let start = byte_in(text, at - k);
     leaf_step(m, slot, start, end, piece)
 }
 

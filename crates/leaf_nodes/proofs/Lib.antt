@@ -1,1 +1,2 @@
 mod Halved
+mod Edited

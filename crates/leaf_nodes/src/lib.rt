@@ -14,12 +14,14 @@ ghost use mathlib.Core.List.{[], _∷_};
 ghost use Prim.Native.Nat.{_≤_};
 ghost use lib.ListN.{length};
 ghost use Rattle.plain.specs.Outcome.{ruled, past};
+ghost use Rattle.answer.specs.Answers.{number};
 ghost use Rattle.leaf_bytes.specs.Leaf.{leafOf, Leaf};
-ghost use Rattle.node_text.specs.Texts.{edited, insertedSplit};
+ghost use Rattle.leaf_bytes.specs.Raw.{replacing};
+ghost use Rattle.node_text.specs.Texts.{offChars, noText, insertedSplit};
 ghost use Rattle.pool.specs.Slot.{regionOf};
 ghost use Rattle.pool.specs.Calls.{outside};
 ghost use Rattle.nodes.specs.Node.{leafPut};
-ghost use Rattle.nodes.specs.Calls.{textRead, leafEdited, leafHalved, LeafWrote, LeavesWrote};
+ghost use Rattle.nodes.specs.Calls.{textRead, leafReplaced, leafEdited, leafHalved, LeafWrote, LeavesWrote};
 
 // Copies a leaf's text to the front of a region.
 pub fn text_of(m: &[u8], slot: usize, out: &mut [u8]) -> Number
@@ -46,16 +48,16 @@ fn copy_text(m: &[u8], slot: usize, n: usize, out: &mut [u8]) -> Number
     leaf_bytes::replace(out, 0, 0, 0, &m[at..at + n])
 }
 
-// Edits the leaf of n bytes in a slot.
-fn edit_at(m: &mut [u8], slot: usize, n: usize, start: usize, end: usize, piece: &[u8]) -> Number
+// The bytes [start, end) of the leaf of n bytes in a slot give way to a piece.
+fn replace_at(m: &mut [u8], slot: usize, n: usize, start: usize, end: usize, piece: &[u8]) -> Number
     requires { ⌜ outside (now m) slot ≡ false ⌝ }
-    ensures { λ r. ⌜ LeafWrote (edited (regionOf (now (m .entry)) slot) n start end (now (piece .entry))) (now (m .entry)) slot r (now (m .exit)) ⌝ }
+    ensures { λ r. ⌜ LeafWrote (replacing (regionOf (now (m .entry)) slot) n start end (now (piece .entry))) (now (m .entry)) slot r (now (m .exit)) ⌝ }
 {
     let first = region_start(m, slot);
     let Number::Is(at) = first else {
         return first;
     };
-    let done = node_text::edit(&mut m[at..at + MAX_BYTES], n, start, end, piece);
+    let done = leaf_bytes::replace(&mut m[at..at + MAX_BYTES], n, start, end, piece);
     let Number::Is(len) = done else {
         return done;
     };
@@ -63,14 +65,40 @@ fn edit_at(m: &mut [u8], slot: usize, n: usize, start: usize, end: usize, piece:
     done
 }
 
-// The bytes [start, end) of a leaf give way to a piece, where they lie.
+// The bytes [start, end) of a leaf give way to a piece, where they lie: that they are text, and lie between chars, is not asked.
+pub fn replace_leaf(m: &mut [u8], slot: usize, start: usize, end: usize, piece: &[u8]) -> Number
+    ensures { λ r. ⌜ LeafWrote (leafReplaced (now (m .entry)) slot start end (now (piece .entry))) (now (m .entry)) slot r (now (m .exit)) ⌝ }
+{
+    let Head::Leaf(n) = head_of(m, slot) else {
+        return Number::Refused(Refusal::Memory);
+    };
+    replace_at(m, slot, n, start, end, piece)
+}
+
+// Whether that is so of the leaf of n bytes in a slot and a piece.
+fn checked_at(m: &[u8], slot: usize, n: usize, start: usize, end: usize, piece: &[u8]) -> Number
+    requires { ⌜ (outside (now m) slot ≡ false) × (n ≤ 512) ⌝ }
+    ensures { λ r. ⌜ number r ≡ ruled (offChars (leafOf (regionOf (now (m .entry)) slot) n) start end ∷ noText (leafOf (regionOf (now (m .entry)) slot) n) (now (piece .entry)) ∷ []) (length (leafOf (regionOf (now (m .entry)) slot) n)) ⌝ }
+{
+    let first = region_start(m, slot);
+    let Number::Is(at) = first else {
+        return first;
+    };
+    node_text::checked(&m[at..at + n], start, end, piece)
+}
+
+// The same edit of text, as the leaf's own: refused where it would leave none.
 pub fn edit_leaf(m: &mut [u8], slot: usize, start: usize, end: usize, piece: &[u8]) -> Number
     ensures { λ r. ⌜ LeafWrote (leafEdited (now (m .entry)) slot start end (now (piece .entry))) (now (m .entry)) slot r (now (m .exit)) ⌝ }
 {
     let Head::Leaf(n) = head_of(m, slot) else {
         return Number::Refused(Refusal::Memory);
     };
-    edit_at(m, slot, n, start, end, piece)
+    let fits = checked_at(m, slot, n, start, end, piece);
+    let Number::Is(_) = fits else {
+        return fits;
+    };
+    replace_at(m, slot, n, start, end, piece)
 }
 
 // Makes a slot a leaf with these bytes.

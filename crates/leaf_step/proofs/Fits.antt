@@ -13,15 +13,16 @@ use Rattle.plain.proofs.Logic.{cut}
 use Rattle.plain.proofs.Edit.{replaced-length}
 use Rattle.text_info.specs.Info.{infoOf}
 use Rattle.text_info.specs.declared.TextInfo.{TextInfo}
-use Rattle.node_text.specs.Texts.{edited}
+use Rattle.text_info.proofs.Counts.{raw-text}
+use Rattle.leaf_bytes.proofs.Calls.{replace-done}
 use Rattle.node_text.proofs.Rules.{Meets}
-use Rattle.node_text.proofs.Parts.{boundary-le}
-use Rattle.node_text.proofs.Texts.{edited-text, edited-accepted}
+use Rattle.node_text.proofs.Parts.{boundary-le, replaced-text}
 use Rattle.pool.specs.Slot.{slotsAt, slotStart, slotOf, lenOf, regionOf}
 use Rattle.pool.proofs.Slots.{region-length}
 use Rattle.nodes.specs.Node.{isLeaf, textOf, leafPut}
+use Rattle.nodes.specs.Calls.{leafReplaced}
 use Rattle.nodes.proofs.Heads.{leaf-says}
-use Rattle.nodes.proofs.Copied.{edit-is}
+use Rattle.nodes.proofs.Copied.{replace-is}
 use Rattle.nodes.proofs.Put.{leaf-size, leaf-put, leaf-text, leaf-others, leaf-front}
 use Rattle.nodes.proofs.Accepted.{text-length}
 use Rattle.tree.specs.Tree.{seamless, leastAt, hit}
@@ -96,17 +97,25 @@ module _ (m : List ℕ) (n s i e : ℕ) (piece : List ℕ) (w : Slotted m n) (le
   there : slotStart s + 640 ≤ length m
   there = leaf-says m s leaf .0
 
-  accepted-edit : edited (regionOf m s) (lenOf m s) i e piece ≡ value new
-  accepted-edit = edited-accepted (regionOf m s) (lenOf m s) i e piece call room (omega (arith, region-length m s there))
+  replaced-leaf : leafReplaced m s i e piece ≡ value new
+  replaced-leaf =
+      let size = region-length m s there in
+      let b = boundary-le (textOf m s) e (call .end) in
+      let long = text-length m s leaf in
+      replace-is m s i e piece (lenOf m s) leaf refl
+      ∙ replace-done (regionOf m s) (lenOf m s) i e piece (call .order) (omega arith) (omega (arith, call .small)) (omega (arith, call .small, call .order))
 
   new-length : length new ≤ 512
   new-length =
       omega (arith, replaced-length i e piece (textOf m s) (call .order) (boundary-le (textOf m s) e (call .end)), text-length m s leaf)
 
-  pub fit-value : leafFit m s i e piece ≡ value (oneLeaf m s new)
+  new-valid : validUtf8 new ≡ true
+  new-valid = replaced-text (textOf m s) (call .leaf-valid) i e piece (call .start) (call .end) (call .piece-valid) .0
+
+  pub fit-value : leafFit m s i e piece ≡ value (sized 128 (length new) (infoOf (decode new)), leafPut m s new)
   unfolding leafFit
-  fit-value = ap (mapped (oneLeaf m s)) (edit-is m s i e piece (lenOf m s) leaf refl ∙ accepted-edit)
+  fit-value = ap (mapped (oneLeaf m s)) replaced-leaf ∙ ap (λ (j : TextInfo). value (sized 128 (length new) j, leafPut m s new)) (raw-text new new-valid)
 
   -- THEOREM: it makes one leaf of the leaf
   pub fit-made : (d : ℕ) → MadeIs m (leafPut m s new) n d (hit s) 0 s new (sized 128 (length new) (infoOf (decode new)))
-  fit-made d = made-one m n d s new w there used new-length (edited-text (regionOf m s) (lenOf m s) i e piece new accepted-edit .valid)
+  fit-made d = made-one m n d s new w there used new-length new-valid

@@ -6,26 +6,27 @@ use mathlib.Core.Logic.{_⊎_, inl, inr}
 use Prim.Native.Nat.{ℕ, _+_, _-_, _≤_, _<_}
 use native.Mathlib.Omega.{arith}
 use lib.ListN.{length}
-use Rattle.plain.specs.Utf8.{validUtf8}
+use Rattle.plain.specs.Utf8.{validUtf8, decode}
 use Rattle.plain.specs.Place.{isBoundary}
 use Rattle.plain.specs.Edit.{replaced, putIn}
 use Rattle.plain.specs.Outcome.{Outcome.value}
 use Rattle.plain.proofs.Logic.{cut}
 use Rattle.leaf_bytes.specs.Split.{halfSplit}
 use Rattle.leaf_bytes.specs.Raw.{cutAt}
+use Rattle.text_info.specs.Info.{infoOf}
 use Rattle.node_text.proofs.Rules.{Meets}
 use Rattle.node_text.proofs.Parts.{boundary-le}
 use Rattle.pool.specs.Slot.{lenOf, nextOf, regionOf}
 use Rattle.pool.proofs.Slots.{region-length}
-use Rattle.nodes.specs.Node.{isLeaf, textOf}
+use Rattle.nodes.specs.Node.{isLeaf, textOf, leafPut}
 use Rattle.nodes.proofs.Heads.{leaf-says}
 use Rattle.nodes.proofs.Accepted.{text-length}
 use Rattle.tree.specs.Tree.{hit}
 use Rattle.note_head.specs.Head.{freeOf}
 use Rattle.became.specs.Became.{free, spare, Slotted}
 use Rattle.became.specs.Grown.{MadeIs}
-use Rattle.edits.specs.Made.{Made}
-use Rattle.leaf_step.specs.Steps.{oneLeaf, twoLeaves, leafStepped}
+use Rattle.edits.specs.Made.{Made, Made.split, sized}
+use Rattle.leaf_step.specs.Steps.{twoLeaves, leafStepped}
 use Rattle.leaf_step.proofs.Rules.{step-over, step-fits, over-is, over-not}
 use Rattle.leaf_step.proofs.Fits.{fit-value, fit-made}
 use Rattle.leaf_step.proofs.Splits.{split-value, split-made}
@@ -69,8 +70,8 @@ module _ (m : List ℕ) (n s i e : ℕ) (piece : List ℕ) (r : Editable m n s i
       let b = boundary-le (textOf m s) e (r .end) in
       let room : i + length piece + (lenOf m s - e) ≤ 512 = omega (arith, r .order, b, text-length m s (r .leaf)) in
       record {
-        made = oneLeaf m s new .0;
-        later = oneLeaf m s new .1;
+        made = sized 128 (length new) (infoOf (decode new));
+        later = leafPut m s new;
         answer = step-fits m s i e piece (r .leaf) (over-not m s i e piece h) ∙ fit-value m n s i e piece (r .slotted) (r .leaf) (r .used) call room;
         is = fit-made m n s i e piece (r .slotted) (r .leaf) (r .used) call room d;
       }
@@ -84,10 +85,10 @@ module _ (m : List ℕ) (n s i : ℕ) (piece : List ℕ) (few : n < 4294967296) 
   parting r h =
       let c = call m n s i i piece r in
       let new = putIn i piece (textOf m s) in
-      let two = twoLeaves m s (freeOf m) (nextOf m (freeOf m)) (cutAt new (halfSplit new)) in
+      let sides = cutAt new (halfSplit new) in
       record {
-        made = two .0;
-        later = two .1;
+        made = split (infoOf (decode (sides .0))) (freeOf m) (infoOf (decode (sides .1)));
+        later = twoLeaves m s (freeOf m) (nextOf m (freeOf m)) sides .1;
         answer = step-over m s i i piece (r .leaf) (over-is m s i i piece refl h) ∙ split-value m n few (r .slotted) s i piece (r .leaf) (r .used) c h short room;
         is = split-made m n few (r .slotted) s i piece (r .leaf) (r .used) c h short room;
       }

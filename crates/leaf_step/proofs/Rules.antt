@@ -9,7 +9,6 @@ use lib.ListN.{length, getD}
 use borrow.Author.Tests.{lt-ltb, le-ltb, eq-eqb, ne-eqb}
 use denote.Enum.Declared.{tagOf}
 use types.Run.{OneOf}
-use Rattle.plain.specs.Utf8.{validUtf8, decode}
 use Rattle.plain.specs.Outcome.{Outcome, Outcome.value, Outcome.refused, past, mapped}
 use Rattle.plain.proofs.Logic.{or-none, and-none}
 use Rattle.answer.specs.Answers.{refusalNumber}
@@ -21,23 +20,27 @@ use Rattle.answer.specs.declared.Sides.{Sides}
 use Rattle.answer.specs.declared.Sides.the-variants as Sides·case
 use Rattle.answer.specs.declared.Verdict.{Verdict}
 use Rattle.leaf_bytes.proofs.Opened.{never}
-use Rattle.text_info.specs.Info.{info, infoOf}
+use Rattle.text_info.specs.Info.{info, rawInfo, rawLeafInfo}
 use Rattle.text_info.specs.declared.TextInfo.{TextInfo}
 use Rattle.text_info.specs.declared.Info.{Info}
 use Rattle.text_info.specs.declared.Info.the-variants as Info·case
+use Rattle.text_info.proofs.Counts.{raw-counted}
 use Rattle.pool.specs.declared.Head.{Head}
 use Rattle.pool.specs.declared.Head.the-variants as Head·case
-use Rattle.pool.specs.Slot.{slotStart, kindOf, lenOf, nextOf}
+use Rattle.pool.specs.Slot.{slotStart, kindOf, lenOf, nextOf, regionOf}
 use Rattle.pool.specs.Calls.{outside, held, headOf, Wrote}
 use Rattle.pool.proofs.Head.{the-type}
-use Rattle.nodes.specs.Node.{isLeaf, textOf, countsOf, lost, ill}
-use Rattle.nodes.specs.Calls.{counted, leafEdited, leafHalved, LeafWrote, LeavesWrote}
-use Rattle.nodes.proofs.Heads.{leaf-says, leaf-no-list, head-leaf, head-no-leaf}
-use Rattle.nodes.proofs.Put.{leaf-text}
-use Rattle.nodes.proofs.Accepted.{counted-is, EditedLeaf, edit-accepted, HalvedLeaf, halve-accepted}
+use Rattle.nodes.specs.Node.{isLeaf, textOf, leafPut}
+use Rattle.nodes.specs.Calls.{leafReplaced, leafHalved, LeafWrote, LeavesWrote}
+use Rattle.nodes.proofs.Heads.{leaf-says, head-leaf, head-no-leaf}
+use Rattle.nodes.proofs.Laid.{replacing-small}
+use Rattle.nodes.proofs.Copied.{replace-is, replace-none}
+use Rattle.nodes.proofs.Put.{leaf-put, leaf-text}
+use Rattle.nodes.proofs.Accepted.{text-length, HalvedLeaf, halve-accepted}
 use Rattle.note_head.specs.Head.{freeOf}
 use Rattle.head_write.specs.Writes.{numberPut, numberSet}
 use Rattle.head_write.proofs.Laid.{number-there}
+use Rattle.leaf_parts.specs.Parts.{leafText}
 use Rattle.slots.specs.Slots.{noFree}
 use Rattle.slots.proofs.Rules.{next-small, head-free, head-other}
 use Rattle.edits.specs.Made.{Made, Made.same, Made.small, edit, sized, Stepped}
@@ -48,29 +51,21 @@ use Rattle.leaf_step.proofs.Leaves.{left-text, right-text}
 
 -- ── a leaf's counts ──
 
-module _ (m : List ℕ) (s : ℕ) (leaf : isLeaf m s ≡ true) (valid : validUtf8 (textOf m s) ≡ true) where
-  not-lost : lost m s ≡ false
-  unfolding lost
-  not-lost = rw (leaf, leaf-no-list m s leaf)
+module _ (m : List ℕ) (s : ℕ) (leaf : isLeaf m s ≡ true) where
+  text-is : leafText m s ≡ textOf m s
+  unfolding leafText
+  text-is = rw leaf
 
-  not-ill : ill m s ≡ false
-  unfolding ill
-  not-ill = rw (leaf, valid)
+  leaf-counted : rawLeafInfo (leafText m s) ≡ value (rawInfo (textOf m s))
+  leaf-counted = ap rawLeafInfo text-is ∙ sym (raw-counted (textOf m s) (omega (arith, text-length m s leaf, leaf-says m s leaf .2)))
 
-  leaf-counts : countsOf m s ≡ infoOf (decode (textOf m s))
-  unfolding countsOf
-  leaf-counts = rw leaf
-
-  pub leaf-counted : counted m s ≡ value (infoOf (decode (textOf m s)))
-  leaf-counted = counted-is m s not-lost not-ill ∙ ap (λ (i : TextInfo). value i) leaf-counts
-
-  module _ (r : Info) (promise : info r ≡ counted m s) where
+  module _ (r : Info) (promise : info r ≡ rawLeafInfo (leafText m s)) where
     pub info-never : (q : Refusal) → r ≡ Info·case.Refused q → ⊥
     info-never q e = never (refusalNumber q) _ (sym (ap info e) ∙ promise ∙ leaf-counted)
 
-    pub info-value : (i : TextInfo) → r ≡ Info·case.Is i → i ≡ infoOf (decode (textOf m s))
+    pub info-value : (i : TextInfo) → r ≡ Info·case.Is i → i ≡ rawInfo (textOf m s)
     info-value i e =
-        let z : _≡_ {A = Outcome TextInfo} (value i) (value (infoOf (decode (textOf m s)))) = sym (ap info e) ∙ promise ∙ leaf-counted in
+        let z : _≡_ {A = Outcome TextInfo} (value i) (value (rawInfo (textOf m s))) = sym (ap info e) ∙ promise ∙ leaf-counted in
         cc
 
 -- ── a leaf's size ──
@@ -94,44 +89,67 @@ stepped-not o before e = stepped-as o (refused 2) before _ before e (record { an
 
 -- ── an edit that fits ──
 
-module _ (m : List ℕ) (s i e : ℕ) (piece : List ℕ) (r : Number) (after : List ℕ) (w : LeafWrote (leafEdited m s i e piece) m s r after) where
-  pub fit-refused : (q : Refusal) → r ≡ Number·case.Refused q → Stepped (leafFit m s i e piece) m (Edit·case.Refused q) after
-  unfolding leafFit
-  fit-refused q z = go (leafEdited m s i e piece) (subst (λ (x : Number). LeafWrote (leafEdited m s i e piece) m s x after) z w)
+-- the leaf afterwards
+record Replaced (m : List ℕ) (s : ℕ) (o : Outcome (List ℕ)) (n : ℕ) (after : List ℕ) : Type 0 where
+  pub text : List ℕ
+  pub is : o ≡ value text
+  pub size : n ≡ length text
+  pub leaf : isLeaf after s ≡ true
+  pub reads : textOf after s ≡ text
+  pub memory : after ≡ leafPut m s text
+
+module _ (m : List ℕ) (s i e : ℕ) (piece : List ℕ) where
+  -- what is replaced lay in a leaf, and does so again
+  was-leaf : (t : List ℕ) → leafReplaced m s i e piece ≡ value t → (slotStart s + 640 ≤ length m) × (length t ≤ 512)
+  was-leaf t h = go (isLeaf m s) refl
     where
-      go : (o : Outcome (List ℕ)) → LeafWrote o m s (Number·case.Refused q) after → Stepped (mapped (oneLeaf m s) o) m (Edit·case.Refused q) after
-      go (value t) w = absurd (never _ _ (w .answered))
-      go (refused n) w =
-          let p = w .answered in
-          let z : refusalNumber q ≡ n = cc in
-          record { answered = ap (λ (k : ℕ). refused k) z; memory = w .memory }
+      go : (b : Bool) → isLeaf m s ≡ b → (slotStart s + 640 ≤ length m) × (length t ≤ 512)
+      go true z = (leaf-says m s z .0, replacing-small (regionOf m s) (lenOf m s) i e piece t (sym (replace-is m s i e piece (lenOf m s) z refl) ∙ h))
+      go false z = absurd (never 2 t (sym (replace-none m s i e piece z) ∙ h))
 
-  module _ (n : ℕ) (z : r ≡ Number·case.Is n) where
-    wrote : LeafWrote (leafEdited m s i e piece) m s (Number·case.Is n) after
-    wrote = subst (λ (x : Number). LeafWrote (leafEdited m s i e piece) m s x after) z w
-
-    pub fit-accepted : EditedLeaf m s i e piece n after
-    fit-accepted = edit-accepted m s i e piece n after wrote
-
-    pub fit-ready : (isLeaf after s ≡ true) × (validUtf8 (textOf after s) ≡ true)
-    fit-ready = (fit-accepted .leaf, ap validUtf8 (fit-accepted .text) ∙ fit-accepted .edit .valid)
-
-    pub fit-done : (a : Edit) → edit a ≡ value (sized 128 n (infoOf (decode (textOf after s)))) → Stepped (leafFit m s i e piece) m a after
+  module _ (r : Number) (after : List ℕ) (w : LeafWrote (leafReplaced m s i e piece) m s r after) where
+    pub fit-refused : (q : Refusal) → r ≡ Number·case.Refused q → Stepped (leafFit m s i e piece) m (Edit·case.Refused q) after
     unfolding leafFit
-    fit-done a p = go (leafEdited m s i e piece) wrote
+    fit-refused q z = go (leafReplaced m s i e piece) (subst (λ (x : Number). LeafWrote (leafReplaced m s i e piece) m s x after) z w)
       where
-        go : (o : Outcome (List ℕ)) → LeafWrote o m s (Number·case.Is n) after → Stepped (mapped (oneLeaf m s) o) m a after
-        go (refused k) w = absurd (never k n (sym (w .answered)))
-        go (value t) w =
-            let y = w .answered in
-            let size : n ≡ length t = cc in
-            let x = fit-accepted in
-            let fits : length t ≤ 512 = omega (arith, x .size, x .edit .small) in
-            let text : textOf after s ≡ t = ap (λ (l : List ℕ). textOf l s) (w .memory) ∙ leaf-text m s t (leaf-says m s (x .was-leaf) .0) fits in
-            record {
-              answered = p ∙ ap (λ (k : ℕ). value (sized 128 k (infoOf (decode (textOf after s))))) size ∙ ap (λ (l : List ℕ). value (sized 128 (length t) (infoOf (decode l)))) text;
-              memory = w .memory;
-            }
+        go : (o : Outcome (List ℕ)) → LeafWrote o m s (Number·case.Refused q) after → Stepped (mapped (oneLeaf m s) o) m (Edit·case.Refused q) after
+        go (value t) w = absurd (never _ _ (w .answered))
+        go (refused n) w =
+            let p = w .answered in
+            let z : refusalNumber q ≡ n = cc in
+            record { answered = ap (λ (k : ℕ). refused k) z; memory = w .memory }
+
+    module _ (n : ℕ) (z : r ≡ Number·case.Is n) where
+      fit-accepted : Replaced m s (leafReplaced m s i e piece) n after
+      fit-accepted = go (leafReplaced m s i e piece) refl (subst (λ (x : Number). LeafWrote (leafReplaced m s i e piece) m s x after) z w)
+        where
+          go : (o : Outcome (List ℕ)) → leafReplaced m s i e piece ≡ o → LeafWrote o m s (Number·case.Is n) after → Replaced m s o n after
+          go (refused k) y w = absurd (never k n (sym (w .answered)))
+          go (value t) y w =
+              let f = was-leaf t y in
+              let p = w .answered in
+              record {
+                text = t;
+                is = refl;
+                size = (let q : n ≡ length t = cc in q);
+                leaf = ap (λ (l : List ℕ). isLeaf l s) (w .memory) ∙ leaf-put m s t (f .0) (f .1);
+                reads = ap (λ (l : List ℕ). textOf l s) (w .memory) ∙ leaf-text m s t (f .0) (f .1);
+                memory = w .memory;
+              }
+
+      pub fit-ready : isLeaf after s ≡ true
+      fit-ready = fit-accepted .leaf
+
+      pub fit-done : (a : Edit) → edit a ≡ value (sized 128 n (rawInfo (textOf after s))) → Stepped (leafFit m s i e piece) m a after
+      unfolding leafFit
+      fit-done a p =
+          let x = fit-accepted in
+          let t = x .text in
+          subst (λ (o : Outcome (List ℕ)). Stepped (mapped (oneLeaf m s) o) m a after) (sym (x .is))
+          (record {
+            answered = p ∙ ap (λ (k : ℕ). value (sized 128 k (rawInfo (textOf after s)))) (x .size) ∙ ap (λ (l : List ℕ). value (sized 128 (length t) (rawInfo l))) (x .reads);
+            memory = x .memory;
+          })
 
 -- ── a leaf parted ──
 
@@ -154,13 +172,13 @@ module _ (m : List ℕ) (s i : ℕ) (piece : List ℕ) (u v : ℕ) (r : Sides) (
     parts : HalvedLeaf m s i piece u k l mid
     parts = halve-accepted m s i piece u k l mid halved
 
-    pub left-ready : (isLeaf mid s ≡ true) × (validUtf8 (textOf mid s) ≡ true)
-    left-ready = (parts .leaf, ap validUtf8 (parts .leaf-text) ∙ parts .split .parted .joined .left-valid)
+    pub left-ready : isLeaf mid s ≡ true
+    left-ready = parts .leaf
 
-    pub right-ready : (isLeaf mid u ≡ true) × (validUtf8 (textOf mid u) ≡ true)
-    right-ready = (parts .other-leaf, ap validUtf8 (parts .other-text) ∙ parts .split .parted .joined .right-valid)
+    pub right-ready : isLeaf mid u ≡ true
+    right-ready = parts .other-leaf
 
-    pub halve-done : (a b : TextInfo) → a ≡ infoOf (decode (textOf mid s)) → b ≡ infoOf (decode (textOf mid u)) → (t : Verdict) (after : List ℕ) → Wrote (numberSet mid 32 v) mid t after
+    pub halve-done : (a b : TextInfo) → a ≡ rawInfo (textOf mid s) → b ≡ rawInfo (textOf mid u) → (t : Verdict) (after : List ℕ) → Wrote (numberSet mid 32 v) mid t after
         → Stepped (leafHalves m s i piece u v) m (Edit·case.Split a u b) after
     unfolding leafHalves
     halve-done a b f g t after n = go (leafHalved m s i piece u) halved
@@ -177,7 +195,7 @@ module _ (m : List ℕ) (s i : ℕ) (piece : List ℕ) (u v : ℕ) (r : Sides) (
             let left : textOf mid s ≡ p .0 = ap (λ (q : List ℕ). textOf q s) (w .memory) ∙ left-text m s (p .0) u (p .1) h (x .there) c d (x .apart) in
             let right : textOf mid u ≡ p .1 = ap (λ (q : List ℕ). textOf q u) (w .memory) ∙ right-text m s (p .0) u (p .1) h (x .there) c d in
             record {
-              answered = ap edit (ap (λ (q : TextInfo). Edit·case.Split q u b) (f ∙ ap (λ (q : List ℕ). infoOf (decode q)) left) ∙ ap (λ (q : TextInfo). Edit·case.Split (infoOf (decode (p .0))) u q) (g ∙ ap (λ (q : List ℕ). infoOf (decode q)) right));
+              answered = ap edit (ap (λ (q : TextInfo). Edit·case.Split q u b) (f ∙ ap (λ (q : List ℕ). rawInfo q) left) ∙ ap (λ (q : TextInfo). Edit·case.Split (rawInfo (p .0)) u q) (g ∙ ap (λ (q : List ℕ). rawInfo q) right));
               memory = number-there mid (omega (arith, x .long, h)) t after 32 v n ∙ ap (λ (q : List ℕ). numberPut q 32 v) (w .memory);
             }
 

@@ -13,7 +13,9 @@ use Rattle.plain.proofs.Outcome.{one-accepted}
 use Rattle.plain.proofs.Edit.{replaced-length}
 use Rattle.leaf_bytes.specs.Split.{halfSplit}
 use Rattle.leaf_bytes.specs.Raw.{cutAt}
-use Rattle.text_info.specs.Info.{infoOf}
+use Rattle.text_info.specs.Info.{infoOf, rawInfo}
+use Rattle.text_info.specs.declared.TextInfo.{TextInfo}
+use Rattle.text_info.proofs.Counts.{raw-text}
 use Rattle.node_text.specs.Texts.{insertedSplit}
 use Rattle.node_text.proofs.Rules.{Meets}
 use Rattle.node_text.proofs.Parts.{boundary-le}
@@ -37,6 +39,7 @@ use Rattle.slots.specs.Slots.{noFree, takenMemory, taken}
 use Rattle.slots.proofs.Laws.{Taken, first-there, taken-value, taken-is}
 use Rattle.became.specs.Became.{free, spare, Slotted, Became}
 use Rattle.became.specs.Grown.{Grown, kid, MadeIs}
+use Rattle.edits.specs.Made.{Made, Made.split}
 use Rattle.leaf_step.specs.Steps.{twoLeaves, leafHalves, leafSplit}
 use Rattle.leaf_step.proofs.Leaves.{both-size, both-front, both-others, left-leaf, left-text, right-leaf, right-text}
 use Rattle.leaf_step.proofs.Kept.{free-kept, slotted-kept, spare-kept, same-n, same-front, same-rest}
@@ -215,13 +218,28 @@ module _ (m : List ℕ) (n : ℕ) (small : n < 4294967296) (w : Slotted m n) (s 
   unfolding taken
   is-free = one-accepted 2 (noFree m right) (right, takenMemory m) (right, takenMemory m) (taken-value m n small w right-in)
 
-  pub split-value : leafSplit m s i piece ≡ value (twoLeaves m s right (nextOf m right) sides)
+  abbrev told : Made
+  told = split (infoOf (decode (sides .0))) right (infoOf (decode (sides .1)))
+
+  raw-told : split (rawInfo (sides .0)) right (rawInfo (sides .1)) ≡ told
+  raw-told =
+      let p = parts .parted .joined in
+      ap (λ (j : TextInfo). split j right (rawInfo (sides .1))) (raw-text (sides .0) (p .left-valid))
+      ∙ ap (split (infoOf (decode (sides .0))) right) (raw-text (sides .1) (p .right-valid))
+
+  abbrev later-two : List ℕ
+  later-two = twoLeaves m s right (nextOf m right) sides .1
+
+  pub split-value : leafSplit m s i piece ≡ value (told, later-two)
   unfolding leafSplit
-  split-value = ap (λ (t : Bool). cond t (refused 2) (leafHalves m s i piece right (nextOf m right))) is-free ∙ halved
+  split-value =
+      ap (λ (t : Bool). cond t (refused 2) (leafHalves m s i piece right (nextOf m right))) is-free
+      ∙ halved
+      ∙ ap (λ (b : Made). value (b, later-two)) raw-told
 
   -- THEOREM: it makes two leaves of the leaf
-  pub split-made : MadeIs m (twoLeaves m s right (nextOf m right) sides .1) n 1 (hit s) 0 s new (twoLeaves m s right (nextOf m right) sides .0)
+  pub split-made : MadeIs m later-two n 1 (hit s) 0 s new told
   split-made =
       let p = parts .parted in
-      subst (Grown m (twoLeaves m s right (nextOf m right) sides .1) n 1 (hit s) 0 (kid s (infoOf (decode (sides .0))) ∷ kid right (infoOf (decode (sides .1))) ∷ [])) (p .joined .text)
+      subst (Grown m later-two n 1 (hit s) 0 (kid s (infoOf (decode (sides .0))) ∷ kid right (infoOf (decode (sides .1))) ∷ [])) (p .joined .text)
       (grown-two m n small w s left-there used right-in (sides .0) (sides .1) (filled .1) (filled .3) (p .joined .left-valid) (p .joined .right-valid) (filled .0) (filled .2) (p .seam))

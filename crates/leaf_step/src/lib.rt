@@ -1,13 +1,15 @@
 // One step of an edit, in a leaf: some bytes of its text give way to a piece. A leaf that becomes too long is parted in two, the second of
-// them in a slot that was free. Each function is total; a refused call changes no byte.
+// them in a slot that was free. Each function is total; a refused call changes no byte. Where there is room the leaf is not asked whether it
+// is text: its bytes are moved and counted as they are, and in a memory that was checked they are text before and after.
 use answer::Number;
 use answer::Refusal;
 use answer::Sides;
 use edits::Edit;
 use head_write::set_first_free;
 use leaf_bytes::MAX_BYTES;
-use leaf_nodes::edit_leaf;
 use leaf_nodes::halve_leaf;
+use leaf_nodes::replace_leaf;
+use leaf_parts::text_at;
 use note_head::first_free;
 use pool::Head;
 use pool::head_of;
@@ -16,9 +18,8 @@ use text_info::TextInfo;
 ghost use mathlib.Core.Path.{_≡_};
 ghost use mathlib.Core.Bool.{true};
 ghost use Prim.Native.Nat.{_<_};
-ghost use Rattle.plain.specs.Utf8.{validUtf8, decode};
 ghost use Rattle.plain.specs.Outcome.{Outcome.value};
-ghost use Rattle.text_info.specs.Info.{infoOf};
+ghost use Rattle.text_info.specs.Info.{rawInfo};
 ghost use Rattle.nodes.specs.Node.{isLeaf, textOf};
 ghost use Rattle.edits.specs.Made.{edit, sized, Stepped};
 ghost use Rattle.leaf_step.specs.Steps.{leafFit, leafHalves, leafSplit, leafStepped};
@@ -26,12 +27,12 @@ ghost use Rattle.leaf_step.specs.Steps.{leafFit, leafHalves, leafSplit, 
 // The least size of a leaf that is not the root.
 const LEAST: usize = 128;
 
-// The counts of a leaf's text.
+// The counts of a leaf's bytes.
 fn info_of(m: &[u8], slot: usize) -> TextInfo
-    requires { ⌜ (isLeaf (now m) slot ≡ true) × (validUtf8 (textOf (now m) slot) ≡ true) ⌝ }
-    ensures { λ r. ⌜ r ≡ infoOf (decode (textOf (now (m .entry)) slot)) ⌝ }
+    requires { ⌜ isLeaf (now m) slot ≡ true ⌝ }
+    ensures { λ r. ⌜ r ≡ rawInfo (textOf (now (m .entry)) slot) ⌝ }
 {
-    let Info::Is(info) = nodes::text_info(m, slot) else {
+    let Info::Is(info) = TextInfo::from_bytes(text_at(m, slot)) else {
         return TextInfo {
             bytes: 0,
             chars: 0,
@@ -44,8 +45,8 @@ fn info_of(m: &[u8], slot: usize) -> TextInfo
 
 // What a leaf of so many bytes is told as.
 fn one_leaf(m: &[u8], slot: usize, len: usize) -> Edit
-    requires { ⌜ (isLeaf (now m) slot ≡ true) × (validUtf8 (textOf (now m) slot) ≡ true) ⌝ }
-    ensures { λ r. ⌜ edit r ≡ value (sized 128 len (infoOf (decode (textOf (now (m .entry)) slot)))) ⌝ }
+    requires { ⌜ isLeaf (now m) slot ≡ true ⌝ }
+    ensures { λ r. ⌜ edit r ≡ value (sized 128 len (rawInfo (textOf (now (m .entry)) slot))) ⌝ }
 {
     let info = info_of(m, slot);
     if len < LEAST {
@@ -58,7 +59,7 @@ fn one_leaf(m: &[u8], slot: usize, len: usize) -> Edit
 fn fit(m: &mut [u8], slot: usize, start: usize, end: usize, piece: &[u8]) -> Edit
     ensures { λ r. ⌜ Stepped (leafFit (now (m .entry)) slot start end (now (piece .entry))) (now (m .entry)) r (now (m .exit)) ⌝ }
 {
-    match edit_leaf(m, slot, start, end, piece) {
+    match replace_leaf(m, slot, start, end, piece) {
         Number::Refused(r) => Edit::Refused(r),
         Number::Is(len) => one_leaf(m, slot, len),
     }

@@ -25,7 +25,7 @@ use Rattle.pool.specs.Slot.{slotStart, lenOf, regionOf}
 use Rattle.pool.specs.Calls.{outside}
 use Rattle.pool.proofs.Slots.{region-length}
 use Rattle.nodes.specs.Node.{isLeaf, textOf}
-use Rattle.nodes.specs.Calls.{textRead, leafEdited, leafHalved, LeafWrote, LeavesWrote}
+use Rattle.nodes.specs.Calls.{textRead, leafReplaced, leafEdited, leafHalved, LeafWrote, LeavesWrote}
 use Rattle.nodes.proofs.Heads.{leaf-says}
 use Rattle.nodes.proofs.Laid.{replacing-whole}
 
@@ -67,7 +67,22 @@ read-not m s out q e z =
 
 -- ── a leaf edited ──
 
+module _ (o : Outcome (List ℕ)) (m : List ℕ) (s : ℕ) where
+  pub wrote-as : (p : Outcome (List ℕ)) (r : Number) (after : List ℕ) → o ≡ p → LeafWrote p m s r after → LeafWrote o m s r after
+  wrote-as p r after e w = subst (λ (q : Outcome (List ℕ)). LeafWrote q m s r after) (sym e) w
+
+  pub wrote-not : (q : Refusal) → o ≡ refused (refusalNumber q) → LeafWrote o m s (Number·case.Refused q) m
+  wrote-not q e = wrote-as (refused (refusalNumber q)) (Number·case.Refused q) m e (record { answered = refl; memory = refl })
+
 module _ (m : List ℕ) (s i e : ℕ) (piece : List ℕ) where
+  pub replace-is : (n : ℕ) → isLeaf m s ≡ true → lenOf m s ≡ n → leafReplaced m s i e piece ≡ replacing (regionOf m s) n i e piece
+  unfolding leafReplaced
+  replace-is n h z = rw h (ap (λ (k : ℕ). replacing (regionOf m s) k i e piece) z)
+
+  pub replace-none : isLeaf m s ≡ false → leafReplaced m s i e piece ≡ refused 2
+  unfolding leafReplaced
+  replace-none h = rw h
+
   pub edit-is : (n : ℕ) → isLeaf m s ≡ true → lenOf m s ≡ n → leafEdited m s i e piece ≡ edited (regionOf m s) n i e piece
   unfolding leafEdited
   edit-is n h z = rw h (ap (λ (k : ℕ). edited (regionOf m s) k i e piece) z)
@@ -75,14 +90,6 @@ module _ (m : List ℕ) (s i e : ℕ) (piece : List ℕ) where
   pub edit-none : isLeaf m s ≡ false → leafEdited m s i e piece ≡ refused 2
   unfolding leafEdited
   edit-none h = rw h
-
-  pub edit-leaf : (n : ℕ) (r : Number) (after : List ℕ) → isLeaf m s ≡ true → lenOf m s ≡ n → LeafWrote (edited (regionOf m s) n i e piece) m s r after
-      → LeafWrote (leafEdited m s i e piece) m s r after
-  edit-leaf n r after h z w = subst (λ (o : Outcome (List ℕ)). LeafWrote o m s r after) (sym (edit-is n h z)) w
-
-  pub edit-refused : (q : Refusal) → isLeaf m s ≡ false → refusalNumber q ≡ 2 → LeafWrote (leafEdited m s i e piece) m s (Number·case.Refused q) m
-  edit-refused q h z =
-      subst (λ (o : Outcome (List ℕ)). LeafWrote o m s (Number·case.Refused q) m) (sym (edit-none h)) (record { answered = ap (λ (k : ℕ). refused k) z; memory = refl })
 
 -- ── a leaf halved ──
 

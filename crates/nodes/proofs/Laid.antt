@@ -1,16 +1,18 @@
 -- A text laid at the front of a slot's region, and the slot made a leaf: from what the calls of the layers below promise to the memory
 -- that `Calls` asks for.
 use mathlib.Core.Path.{_≡_, refl, sym, ap, subst, _∙_}
-use mathlib.Core.Bool.{true, false}
-use mathlib.Core.List.{List, [], _++_, append-assoc, append-nil}
+use mathlib.Core.Bool.{true, false, _||_}
+use mathlib.Core.List.{List, [], _∷_, _++_, append-assoc, append-nil}
 use Prim.Native.Nat.{ℕ, _+_, _-_, _≤_}
 use native.Mathlib.Omega.{arith}
 use lib.ListN.{length, take, drop, length-append, length-drop, take-append-drop}
 use lib.Seq.{take-take, drop-drop, length-take-le}
 use borrow.Author.Tests.{le-ltb}
 use borrow.Rule.Slice.PartMut.{putMid}
-use Rattle.plain.specs.Outcome.{Outcome, Outcome.value, Outcome.refused, kept}
-use Rattle.plain.proofs.Outcome.{rule-passed, one-passed}
+use Rattle.plain.specs.Edit.{replaced}
+use Rattle.plain.specs.Outcome.{Outcome, Outcome.value, Outcome.refused, past, kept}
+use Rattle.plain.proofs.Logic.{neither}
+use Rattle.plain.proofs.Outcome.{rule-passed, one-passed, accepted, all-accepted}
 use Rattle.answer.specs.Answers.{refusalNumber, number, sides}
 use Rattle.answer.specs.declared.Refusal.{Refusal}
 use Rattle.answer.specs.declared.Number.{Number}
@@ -18,15 +20,14 @@ use Rattle.answer.specs.declared.Number.the-variants as Number·case
 use Rattle.answer.specs.declared.Sides.{Sides}
 use Rattle.answer.specs.declared.Sides.the-variants as Sides·case
 use Rattle.answer.specs.declared.Verdict.{Verdict}
-use Rattle.leaf_bytes.specs.Leaf.{laid, written, Leaf, Leaves}
+use Rattle.leaf_bytes.specs.Leaf.{leafOf, over, laid, written, Leaf, Leaves}
 use Rattle.leaf_bytes.specs.Moves.{overlaid}
 use Rattle.leaf_bytes.specs.Raw.{replacing}
 use Rattle.leaf_bytes.proofs.Calls.{replace-done}
 use Rattle.leaf_bytes.proofs.Copies.{overlaid-length}
 use Rattle.leaf_bytes.proofs.Laid.{part-is}
 use Rattle.leaf_bytes.proofs.Opened.{never}
-use Rattle.node_text.specs.Texts.{edited}
-use Rattle.node_text.proofs.Texts.{edited-text}
+use Rattle.leaf_bytes.proofs.Rules.{over-fits, replacing-is}
 use Rattle.pool.specs.Slot.{slotStart, regionOf, headPut, regionPut}
 use Rattle.pool.specs.Calls.{outside, regionStart, headSet, Wrote}
 use Rattle.pool.proofs.Opened.{region-opened}
@@ -83,6 +84,16 @@ none-over p m = let z : p + 0 ≡ p = omega arith in ap (λ (i : ℕ). take p m 
 pub replacing-whole : (region piece : List ℕ) → length piece ≤ 512 → length piece ≤ length region → replacing region 0 0 0 piece ≡ value piece
 replacing-whole region piece h k =
     replace-done region 0 0 0 piece (omega arith) (omega arith) (omega arith) (omega arith) ∙ ap (λ (l : List ℕ). value l) (append-nil piece)
+
+-- what it leaves is a leaf
+pub replacing-small : (region : List ℕ) (len i e : ℕ) (piece t : List ℕ) → replacing region len i e piece ≡ value t → length t ≤ 512
+replacing-small region len i e piece t h =
+    let new = replaced i e piece (leafOf region len) in
+    let long = over region len || over region (length new) in
+    let place = accepted 3 (past i e || past e (length (leafOf region len))) ((11, long) ∷ []) new t (sym (replacing-is region len i e piece) ∙ h) in
+    let size = accepted 11 long [] new t (place .1) in
+    let fits = over-fits region (length new) (neither (over region len) (over region (length new)) (size .0) .1) in
+    omega (arith, fits .0, ap length (all-accepted new t (size .1)))
 
 -- ── an answer opened ──
 
@@ -164,26 +175,26 @@ module _ (m : List ℕ) (s : ℕ) (h : slotStart s + 640 ≤ length m) (a end : 
       let room : length lent ≡ 512 = ap length (region-lent m s a end f g) ∙ region-length m s h in
       leaf-made t y v after k (w .region ∙ ap (written lent) (replacing-whole lent t k (omega arith))) u
 
-  -- ── `edit_at` ──
+  -- ── `replace_at` ──
 
-  module _ (n i e : ℕ) (piece : List ℕ) (r : Number) (y : List ℕ) (promise : Leaf (edited lent n i e piece) lent r y) where
-    now-region : Leaf (edited (regionOf m s) n i e piece) (regionOf m s) r y
-    now-region = subst (λ (b : List ℕ). Leaf (edited b n i e piece) b r y) (region-lent m s a end f g) promise
+  module _ (n i e : ℕ) (piece : List ℕ) (r : Number) (y : List ℕ) (promise : Leaf (replacing lent n i e piece) lent r y) where
+    now-region : Leaf (replacing (regionOf m s) n i e piece) (regionOf m s) r y
+    now-region = subst (λ (b : List ℕ). Leaf (replacing b n i e piece) b r y) (region-lent m s a end f g) promise
 
-    pub edit-not : (q : Refusal) → r ≡ Number·case.Refused q → LeafWrote (edited (regionOf m s) n i e piece) m s r (putMid a (end - a) m y)
-    edit-not q z = go (edited (regionOf m s) n i e piece) now-region
+    pub replace-not : (q : Refusal) → r ≡ Number·case.Refused q → LeafWrote (replacing (regionOf m s) n i e piece) m s r (putMid a (end - a) m y)
+    replace-not q z = go (replacing (regionOf m s) n i e piece) now-region
       where
         go : (o : Outcome (List ℕ)) → Leaf o (regionOf m s) r y → LeafWrote o m s r (putMid a (end - a) m y)
         go (value t) w = absurd (never _ (length t) (sym (ap number z) ∙ w .answered))
         go (refused k) w = record { answered = w .answered; memory = lent-same y (w .region ∙ sym (region-lent m s a end f g)) }
 
-    pub edit-done : (len : ℕ) (v : Verdict) (after : List ℕ) → r ≡ Number·case.Is len
+    pub replace-set : (len : ℕ) (v : Verdict) (after : List ℕ) → r ≡ Number·case.Is len
         → Wrote (headSet (putMid a (end - a) m y) s 1 len 512 0) (putMid a (end - a) m y) v after
-        → LeafWrote (edited (regionOf m s) n i e piece) m s (Number·case.Is len) after
-    edit-done len v after z w =
-        let d = gave (edited (regionOf m s) n i e piece) (regionOf m s) r y len now-region z in
+        → LeafWrote (replacing (regionOf m s) n i e piece) m s (Number·case.Is len) after
+    replace-set len v after z w =
+        let d = gave (replacing (regionOf m s) n i e piece) (regionOf m s) r y len now-region z in
         let t = d .text in
-        let small = edited-text (regionOf m s) n i e piece t (d .is) .small in
+        let small = replacing-small (regionOf m s) n i e piece t (d .is) in
         let l : y ≡ laid lent t = d .region ∙ ap (λ (b : List ℕ). laid b t) (sym (region-lent m s a end f g)) in
         let u : Wrote (headSet (putMid a (end - a) m y) s 1 (length t) 512 0) (putMid a (end - a) m y) v after =
         subst (λ (k : ℕ). Wrote (headSet (putMid a (end - a) m y) s 1 k 512 0) (putMid a (end - a) m y) v after) (sym (d .size)) w in

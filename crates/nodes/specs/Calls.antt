@@ -11,6 +11,7 @@ use Rattle.answer.specs.declared.Number.{Number}
 use Rattle.answer.specs.declared.Sides.{Sides}
 use Rattle.answer.specs.declared.Verdict.{Verdict}
 use Rattle.answer.specs.declared.Verdict.the-variants as Verdict·case
+use Rattle.leaf_bytes.specs.Raw.{replacing}
 use Rattle.node_text.specs.Texts.{edited, insertedSplit}
 use Rattle.text_info.specs.declared.TextInfo.{TextInfo}
 use Rattle.text_info.specs.declared.TextSum.{TextSum}
@@ -61,7 +62,11 @@ unfoldable pub textRead : List ℕ → ℕ → ℕ → Outcome (List ℕ)
 unfolding ruled
 textRead m s out = ruled ((2, not (isLeaf m s)) ∷ (9, past (length (textOf m s)) out) ∷ []) (textOf m s)
 
--- [s, e) of the leaf in a slot gives way to a piece: the leaf's own refusals behind that of the slot
+-- [s, e) of the leaf in a slot gives way to a piece, be its bytes text or not: refused by its range and its size alone, behind the slot
+unfoldable pub leafReplaced : List ℕ → ℕ → ℕ → ℕ → List ℕ → Outcome (List ℕ)
+leafReplaced m slot s e piece = cond (isLeaf m slot) (replacing (regionOf m slot) (lenOf m slot) s e piece) (refused 2)
+
+-- the same of text: the leaf's own refusals behind that of the slot
 unfoldable pub leafEdited : List ℕ → ℕ → ℕ → ℕ → List ℕ → Outcome (List ℕ)
 leafEdited m slot s e piece = cond (isLeaf m slot) (edited (regionOf m slot) (lenOf m slot) s e piece) (refused 2)
 

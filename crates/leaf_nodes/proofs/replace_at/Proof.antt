@@ -1,12 +1,12 @@
--- `edit_at` meets its contract: the region is edited where it lies, and then the head is set.
+-- `replace_at` meets its contract: the region is edited where it lies, and then the head is set.
 use mathlib.Core.Path.{refl}
 use native.Mathlib.Omega.{arith}
 use Rattle.pool.proofs.Opened.{region-opened}
 use Rattle.nodes.proofs.Heads.{inside}
-use Rattle.nodes.proofs.Laid.{region-there, edit-not, edit-done}
+use Rattle.nodes.proofs.Laid.{region-there, replace-not, replace-set}
 use borrow.Author.Needs.{needs}
-use Rattle.leaf_nodes.proofs.edit_at.Statement.{statement}
-use Rattle.leaf_nodes.proofs.edit_at.Tie as tie
+use Rattle.leaf_nodes.proofs.replace_at.Statement.{statement}
+use Rattle.leaf_nodes.proofs.replace_at.Tie as tie
 
 region-start-requires : tie.Need-region-start-requires
 region-start-requires c κs = search needs
@@ -23,20 +23,20 @@ same-length c = search needs
 returns : tie.Need-returns
 returns c = let a = c .before .before .before .before .before .before .args in absurd (region-there (c .before .before .region-start .result) (a .m .now) (a .slot) _ (c .before .before .region-start .ensures) (c .enum-told .given .1) (inside (a .m .now) (a .slot) (c .before .before .before .before .before .before .pre)))
 
-add-edit : tie.Need-add-edit
-add-edit c = let a = c .before .before .before .before .before .before .before .args in omega (arith, region-opened (c .before .before .before .region-start .result) (a .m .now) (a .slot) _ (c .before .before .before .region-start .ensures) (c .before .first .given .1))
+add-replace : tie.Need-add-replace
+add-replace c = let a = c .before .before .before .before .before .before .before .args in omega (arith, region-opened (c .before .before .before .region-start .result) (a .m .now) (a .slot) _ (c .before .before .before .region-start .ensures) (c .before .first .given .1))
 
-sub-edit : tie.Need-sub-edit
-sub-edit c = search needs
+sub-replace : tie.Need-sub-replace
+sub-replace c = search needs
 
-part-edit-start : tie.Need-part-edit-start
-part-edit-start c = search needs
+part-replace-start : tie.Need-part-replace-start
+part-replace-start c = search needs
 
-part-edit-end : tie.Need-part-edit-end
-part-edit-end c = let a = c .before .before .before .before .before .before .before .args in omega (arith, region-opened (c .before .before .before .region-start .result) (a .m .now) (a .slot) _ (c .before .before .before .region-start .ensures) (c .before .first .given .1))
+part-replace-end : tie.Need-part-replace-end
+part-replace-end c = let a = c .before .before .before .before .before .before .before .args in omega (arith, region-opened (c .before .before .before .region-start .result) (a .m .now) (a .slot) _ (c .before .before .before .region-start .ensures) (c .before .first .given .1))
 
-edit-requires : tie.Need-edit-requires
-edit-requires c κs = search needs
+replace-requires : tie.Need-replace-requires
+replace-requires c κs = search needs
 
 enum-known-done : tie.Need-enum-known-done
 enum-known-done c = search needs
@@ -51,7 +51,7 @@ returns-2 : tie.Need-returns-2
 returns-2 c =
     let a = c .before .before .before .before .before .before .before .before .before .before .before .before .before .args in
     let o = region-opened (c .before .before .before .before .before .before .before .before .before .region-start .result) (a .m .now) (a .slot) _ (c .before .before .before .before .before .before .before .before .before .region-start .ensures) (c .before .before .before .before .before .before .before .first .given .1) in
-    edit-not (a .m .now) (a .slot) (o .0) _ _ (o .1) refl (a .n) (a .start) (a .end) (a .piece .now) _ _ (c .before .before .before .before .edit .ensures) _ (c .enum-told2 .given .1)
+    replace-not (a .m .now) (a .slot) (o .0) _ _ (o .1) refl (a .n) (a .start) (a .end) (a .piece .now) _ _ (c .before .before .before .before .replace .ensures) _ (c .enum-told2 .given .1)
 
 set-leaf-requires : tie.Need-set-leaf-requires
 set-leaf-requires c κs = search needs
@@ -63,10 +63,10 @@ returns-3 : tie.Need-returns-3
 returns-3 c =
     let a = c .before .before .before .before .before .before .before .before .before .before .before .before .before .before .before .before .before .before .args in
     let o = region-opened (c .before .before .before .before .before .before .before .before .before .before .before .before .before .before .region-start .result) (a .m .now) (a .slot) _ (c .before .before .before .before .before .before .before .before .before .before .before .before .before .before .region-start .ensures) (c .before .before .before .before .before .before .before .before .before .before .before .before .first .given .1) in
-    edit-done (a .m .now) (a .slot) (o .0) _ _ (o .1) refl (a .n) (a .start) (a .end) (a .piece .now) _ _ (c .before .before .before .before .before .before .before .before .before .edit .ensures) _ (c .before .before .set-leaf .result) _ (c .before .before .before .before .before .done .given .1) (c .before .before .set-leaf .ensures)
+    replace-set (a .m .now) (a .slot) (o .0) _ _ (o .1) refl (a .n) (a .start) (a .end) (a .piece .now) _ _ (c .before .before .before .before .before .before .before .before .before .replace .ensures) _ (c .before .before .set-leaf .result) _ (c .before .before .before .before .before .done .given .1) (c .before .before .set-leaf .ensures)
 
-pub edit-at-spec : {M : Type 1} → statement M
-edit-at-spec =
+pub replace-at-spec : {M : Type 1} → statement M
+replace-at-spec =
     tie.close
     (tie.spec
     region-start-requires
@@ -74,11 +74,11 @@ edit-at-spec =
     enum-told
     same-length
     returns
-    add-edit
-    sub-edit
-    part-edit-start
-    part-edit-end
-    edit-requires
+    add-replace
+    sub-replace
+    part-replace-start
+    part-replace-end
+    replace-requires
     enum-known-done
     enum-told-2
     same-length-2
