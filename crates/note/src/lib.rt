@@ -25,30 +25,30 @@ ghost use Rattle.note_promise.specs.Called.{EditCalled, MarkCalled};
 
 // ── opening, and whether memory is well formed ──
 
-pub use opening::open;
 pub use memory::check;
+pub use opening::open;
 
 // ── what only reads: lengths, n, the edit number, conversions; copies, runs and previews ──
 
+pub use copy_out::copy_out;
+pub use readings::byte_to_char;
+pub use readings::byte_to_line;
+pub use readings::char_to_byte;
+pub use readings::char_to_line;
+pub use readings::char_to_utf16_cu;
+pub use readings::edit_number;
 pub use readings::len_bytes;
 pub use readings::len_chars;
-pub use readings::len_utf16_cu;
 pub use readings::len_lines;
-pub use readings::slots;
-pub use readings::edit_number;
-pub use readings::byte_to_char;
-pub use readings::char_to_byte;
-pub use readings::byte_to_line;
+pub use readings::len_utf16_cu;
 pub use readings::line_to_byte;
-pub use readings::char_to_line;
 pub use readings::line_to_char;
-pub use readings::char_to_utf16_cu;
+pub use readings::slots;
 pub use readings::utf16_cu_to_char;
-pub use copy_out::copy_out;
-pub use runs::run;
-pub use runs::run_refusal;
 pub use runs::preview;
 pub use runs::preview_refusal;
+pub use runs::run;
+pub use runs::run_refusal;
 
 // ── edits: how many lines more the note has ──
 

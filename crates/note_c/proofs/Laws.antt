@@ -36,10 +36,10 @@ pub no-call-0 : (k : ℕ) (m : List ℕ) (i : ℕ) → k ≡ 0 → refused 10 �
 unfolding askedBy
 no-call-0 k m i e = sym (rw (eq-eqb k 0 e))
 
-pub no-call : (k : ℕ) (m : List ℕ) (i : ℕ) → (k ≡ 0 → ⊥) → 14 < k → refused 10 ≡ askedBy k m i
+pub no-call : (k : ℕ) (m : List ℕ) (i : ℕ) → (k ≡ 0 → ⊥) → 16 < k → refused 10 ≡ askedBy k m i
 unfolding askedBy
-no-call k m i z h = sym (rw (ne-eqb k 0 z, lt-ltb 14 k h))
+no-call k m i z h = sym (rw (ne-eqb k 0 z, lt-ltb 16 k h))
 
-pub by-number : (k : ℕ) (m : List ℕ) (i : ℕ) (o : Outcome ℕ) → (k ≡ 0 → ⊥) → k ≤ 14 → o ≡ asked (getD calls (k - 1) LenBytes) m i → o ≡ askedBy k m i
+pub by-number : (k : ℕ) (m : List ℕ) (i : ℕ) (o : Outcome ℕ) → (k ≡ 0 → ⊥) → k ≤ 16 → o ≡ asked (getD calls (k - 1) LenBytes) m i → o ≡ askedBy k m i
 unfolding askedBy
-by-number k m i o z h e = e ∙ sym (rw (ne-eqb k 0 z, le-ltb 14 k h))
+by-number k m i o z h e = e ∙ sym (rw (ne-eqb k 0 z, le-ltb 16 k h))

@@ -40,14 +40,16 @@ loop-again c =
     let k = c .before .before .before .loop .k in
     let z : 256 - k ≡ suc (255 - k) = omega arith in
     let y : 255 - k ≡ 256 - (k + 1) = omega arith in
-    let x : suc k ≡ k + 1 = omega arith in
-    (omega arith, omega (
-      arith,
-      ap (λ (i : ℕ). lowest (marksFrom m k i)) z,
-      lowest-next m k (255 - k) (omega arith),
-      ap (λ (i : ℕ). lowest (marksFrom m (suc k) i)) y,
-      ap (λ (i : ℕ). lowest (marksFrom m i (256 - (k + 1)))) x,
-    ))
+    let x : suc k ≡ k + 1 = omega arith in (
+      omega arith,
+      omega (
+        arith,
+        ap (λ (i : ℕ). lowest (marksFrom m k i)) z,
+        lowest-next m k (255 - k) (omega arith),
+        ap (λ (i : ℕ). lowest (marksFrom m (suc k) i)) y,
+        ap (λ (i : ℕ). lowest (marksFrom m i (256 - (k + 1)))) x,
+      ),
+    )
 
 returns-2 : tie.Need-returns-2 Inv-loop μ-loop
 returns-2 c =

@@ -1,6 +1,6 @@
 -- `note_c::calls::ask` meets its contract: in each arm, what the call that it makes ensures.
 use borrow.Author.Needs.{needs}
-use Rattle.note_c.specs.declared.calls.Call.the-variants.{LenBytes, LenChars, LenUtf16Cu, LenLines, Slots, EditNumber, ByteToChar, CharToByte, ByteToLine, LineToByte, CharToLine, LineToChar, CharToUtf16Cu, Utf16CuToChar}
+use Rattle.note_c.specs.declared.calls.Call.the-variants.{LenBytes, LenChars, LenUtf16Cu, LenLines, Slots, EditNumber, ByteToChar, CharToByte, ByteToLine, LineToByte, CharToLine, LineToChar, CharToUtf16Cu, Utf16CuToChar, MarkPlace, MarkLine}
 use Rattle.note_c.proofs.Laws.{by-call}
 use Rattle.note_c.proofs.calls.ask.Statement.{statement}
 use Rattle.note_c.proofs.calls.ask.Tie as tie
@@ -89,6 +89,18 @@ enum-told-14 c = search needs
 utf16-cu-to-char-requires : tie.Need-utf16-cu-to-char-requires
 utf16-cu-to-char-requires c κs = search needs
 
+enum-told-15 : tie.Need-enum-told-15
+enum-told-15 c = search needs
+
+mark-place-requires : tie.Need-mark-place-requires
+mark-place-requires c κs = search needs
+
+enum-told-16 : tie.Need-enum-told-16
+enum-told-16 c = search needs
+
+mark-line-requires : tie.Need-mark-line-requires
+mark-line-requires c κs = search needs
+
 returns : tie.Need-returns
 returns c = by-call _ LenBytes _ _ _ (c .before .enum-told .given .1) (c .len-bytes .ensures)
 
@@ -131,6 +143,12 @@ returns-13 c = by-call _ CharToUtf16Cu _ _ _ (c .before .enum-told13 .given .1) 
 returns-14 : tie.Need-returns-14
 returns-14 c = by-call _ Utf16CuToChar _ _ _ (c .before .enum-told14 .given .1) (c .utf16-cu-to-char .ensures)
 
+returns-15 : tie.Need-returns-15
+returns-15 c = by-call _ MarkPlace _ _ _ (c .before .enum-told15 .given .1) (c .mark-place .ensures)
+
+returns-16 : tie.Need-returns-16
+returns-16 c = by-call _ MarkLine _ _ _ (c .before .enum-told16 .given .1) (c .mark-line .ensures)
+
 pub ask-spec : {M : Type 1} → statement M
 ask-spec =
     tie.close
@@ -163,6 +181,10 @@ ask-spec =
     char-to-utf16-cu-requires
     enum-told-14
     utf16-cu-to-char-requires
+    enum-told-15
+    mark-place-requires
+    enum-told-16
+    mark-line-requires
     returns
     returns-2
     returns-3
@@ -176,4 +198,6 @@ ask-spec =
     returns-11
     returns-12
     returns-13
-    returns-14)
+    returns-14
+    returns-15
+    returns-16)

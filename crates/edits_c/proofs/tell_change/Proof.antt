@@ -1,4 +1,4 @@
--- `edits_c::tell` meets its contract, in each of the two cases.
+-- `edits_c::tell_change` meets its contract, in each of the two cases.
 use mathlib.Core.Path.{sym, ap, _∙_}
 use borrow.Author.Needs.{needs}
 use mir.Syntax.{w64}
@@ -6,8 +6,8 @@ use mir.ValLaws.{toZ-ofZ}
 use Rattle.plain.specs.Outcome.{kept}
 use Rattle.line_change.specs.Change.{change}
 use Rattle.note_c.specs.Told.{code}
-use Rattle.edits_c.proofs.tell.Statement.{statement}
-use Rattle.edits_c.proofs.tell.Tie as tie
+use Rattle.edits_c.proofs.tell_change.Statement.{statement}
+use Rattle.edits_c.proofs.tell_change.Tie as tie
 
 enum-known-a : tie.Need-enum-known-a
 enum-known-a c = search needs
@@ -30,5 +30,5 @@ returns-2 c =
     let o = sym (ap change (c .before .before .a2 .given .1)) in
     (c .number-of .ensures ∙ ap code o, ap (kept (c .before .before .before .before .args .out .now)) o)
 
-pub tell-spec : {M : Type 1} → statement M
-tell-spec = tie.close (tie.spec enum-known-a enum-known-a-2 number-of-requires returns returns-2)
+pub tell-change-spec : {M : Type 1} → statement M
+tell-change-spec = tie.close (tie.spec enum-known-a enum-known-a-2 number-of-requires returns returns-2)
