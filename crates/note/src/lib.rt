@@ -31,20 +31,20 @@ pub use opening::open;
 // ── what only reads: lengths, n, the edit number, conversions; copies, runs and previews ──
 
 pub use copy_out::copy_out;
-pub use readings::byte_to_char;
-pub use readings::byte_to_line;
-pub use readings::char_to_byte;
-pub use readings::char_to_line;
-pub use readings::char_to_utf16_cu;
+pub use conversions::byte_to_char;
+pub use conversions::byte_to_line;
+pub use conversions::char_to_byte;
+pub use conversions::char_to_line;
+pub use conversions::char_to_utf16_cu;
 pub use readings::edit_number;
 pub use readings::len_bytes;
 pub use readings::len_chars;
 pub use readings::len_lines;
 pub use readings::len_utf16_cu;
-pub use readings::line_to_byte;
-pub use readings::line_to_char;
+pub use conversions::line_to_byte;
+pub use conversions::line_to_char;
 pub use readings::slots;
-pub use readings::utf16_cu_to_char;
+pub use conversions::utf16_cu_to_char;
 pub use runs::preview;
 pub use runs::preview_refusal;
 pub use runs::run;
@@ -138,5 +138,5 @@ pub fn mark_line(m: &[u8], k: usize) -> Number
         }
         return place;
     };
-    readings::char_to_line(m, p)
+    conversions::char_to_line(m, p)
 }
