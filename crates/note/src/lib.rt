@@ -30,21 +30,21 @@ pub use opening::open;
 
 // ── what only reads: lengths, n, the edit number, conversions; copies, runs and previews ──
 
-pub use copy_out::copy_out;
 pub use conversions::byte_to_char;
 pub use conversions::byte_to_line;
 pub use conversions::char_to_byte;
 pub use conversions::char_to_line;
 pub use conversions::char_to_utf16_cu;
+pub use conversions::line_to_byte;
+pub use conversions::line_to_char;
+pub use conversions::utf16_cu_to_char;
+pub use copy_out::copy_out;
 pub use readings::edit_number;
 pub use readings::len_bytes;
 pub use readings::len_chars;
 pub use readings::len_lines;
 pub use readings::len_utf16_cu;
-pub use conversions::line_to_byte;
-pub use conversions::line_to_char;
 pub use readings::slots;
-pub use conversions::utf16_cu_to_char;
 pub use runs::preview;
 pub use runs::preview_refusal;
 pub use runs::run;
