@@ -62,8 +62,8 @@ const FULL_EDITS: [edit::Row; 5] = [
     edits_of(17, 200, 2_500),
     edits_of(18, 200, 2_500),
     edits_of(80, 220, 2_000),
-    edits_of(512, 10, 2_000),
-    edits_of(4_096, 4, 1_800),
+    edits_of(512, 20, 1_000),
+    edits_of(4_096, 12, 600),
 ];
 
 const SHORT: Extent = Extent {
