@@ -1,7 +1,7 @@
 #!/bin/sh
 # compare.sh [--short | --edits [--short] | --record FILE | --record-lists FILE]   compares the library with the source crate.
-#   no word: every comparison (some ten minutes). --short: some seconds. --edits: the edits of a note alone. --record FILE: writes a sample
-#   of the source's answers on texts and leaves. --record-lists FILE: one of its answers on child lists.
+#   no word: every comparison (some minutes). --short: some seconds. --edits: the edits and marks of a note alone. --record FILE: writes a
+#   sample of the source's answers on texts and leaves. --record-lists FILE: one of its answers on child lists.
 # ORACLE=FOLDER      the source crate's folder (oracle.sh)
 # TEXT_C_DIR=FOLDER  link the libtext_c.a, libleaf_c.a, liblist_c.a, libnote_c.a and libedits_c.a there instead of building them (archives.sh)
 set -eu

@@ -2,7 +2,7 @@
 //!
 //! compare                     the full run
 //! compare --short             the same groups, of smaller extent
-//! compare --edits [--short]   the edits of a note alone
+//! compare --edits [--short]   the edits and marks of a note alone
 //! compare --record FILE       writes a sample of the source's answers on texts and leaves
 //! compare --record-lists FILE writes a sample of its answers on child lists
 
@@ -59,11 +59,11 @@ const FULL_NOTE: note::Extent = note::Extent {
 };
 
 const FULL_EDITS: [edit::Row; 5] = [
-    edits_of(17, 100, 2_500),
-    edits_of(18, 100, 2_500),
-    edits_of(80, 340, 2_000),
-    edits_of(300, 20, 2_000),
-    edits_of(4_096, 6, 2_200),
+    edits_of(17, 200, 2_500),
+    edits_of(18, 200, 2_500),
+    edits_of(80, 220, 2_000),
+    edits_of(512, 20, 1_000),
+    edits_of(4_096, 12, 600),
 ];
 
 const SHORT: Extent = Extent {
@@ -96,16 +96,16 @@ const SHORT_LIST: list::Extent = list::Extent {
 const SHORT_NOTE: note::Extent = note::Extent {
     small: 20,
     slots: 40,
-    large: 5,
-    asked: 40,
+    large: 4,
+    asked: 30,
 };
 
 const SHORT_EDITS: [edit::Row; 5] = [
-    edits_of(17, 2, 600),
-    edits_of(18, 2, 600),
-    edits_of(80, 6, 800),
-    edits_of(300, 2, 400),
-    edits_of(4_096, 2, 100),
+    edits_of(17, 4, 600),
+    edits_of(18, 4, 600),
+    edits_of(80, 6, 700),
+    edits_of(512, 2, 200),
+    edits_of(4_096, 2, 50),
 ];
 
 const fn edits_of(n: usize, notes: usize, edits: usize) -> edit::Row {

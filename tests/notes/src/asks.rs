@@ -23,6 +23,8 @@ pub enum Call {
     LineToChar,
     CharToUtf16Cu,
     Utf16CuToChar,
+    MarkPlace,
+    MarkLine,
 }
 
 pub const TOTALS: [Call; 6] = [
@@ -44,6 +46,8 @@ pub const CONVERSIONS: [Call; 8] = [
     Call::CharToUtf16Cu,
     Call::Utf16CuToChar,
 ];
+
+pub const OF_MARKS: [Call; 2] = [Call::MarkPlace, Call::MarkLine];
 
 impl Call {
     /// What a conversion is from and to.
@@ -183,7 +187,9 @@ fn read(note: &Note, call: Call, index: usize) -> Result<usize, u8> {
         (Call::LenUtf16Cu, _) => Ok(note.places.units()),
         (Call::LenLines, _) => Ok(note.places.lines()),
         (Call::Slots, _) => Ok(note.n),
-        _ => Ok(note.edit as usize),
+        (Call::MarkPlace, _) => note.marks.place(index),
+        (Call::MarkLine, _) => note.places.converted(Char, Line, note.marks.place(index)?),
+        _ => Ok(note.marks.edits as usize),
     }
 }
 

@@ -39,6 +39,24 @@ impl fmt::Debug for Edit {
     }
 }
 
+impl Edit {
+    /// Whether it is an empty piece or range, which changes nothing where it is accepted.
+    pub fn is_idle(&self) -> bool {
+        match self {
+            Edit::Insert { piece, .. } => piece.is_empty(),
+            Edit::Remove { start, end } => start == end,
+        }
+    }
+
+    /// How many chars a piece that is a text brings in.
+    pub fn new_chars(&self) -> usize {
+        match self {
+            Edit::Insert { piece, .. } => piece.iter().filter(|&byte| byte & 0xC0 != 0x80).count(),
+            Edit::Remove { .. } => 0,
+        }
+    }
+}
+
 /// What is in the change if none is written.
 pub const UNTOUCHED: i64 = i64::MIN;
 

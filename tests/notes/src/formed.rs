@@ -2,6 +2,7 @@
 //! by clause. The tree is walked level by level from the root down, and no more nodes than there
 //! are slots, so that it ends whatever the bytes are.
 
+use crate::marks::Marks;
 use crate::memory::{self, Kid, Node};
 use crate::places::Places;
 
@@ -17,7 +18,7 @@ pub struct Leaf {
 pub struct Note {
     pub text: String,
     pub places: Places,
-    pub edit: u32,
+    pub marks: Marks,
     pub n: usize,
     pub leaves: Vec<Leaf>,
 }
@@ -36,7 +37,7 @@ pub fn note(memory: &[u8]) -> Option<Note> {
     let places = Places::of(&text);
     (is_whole && marks_hold(own, places.chars())).then(|| Note {
         places,
-        edit: memory::four(own, memory::EDIT),
+        marks: Marks::of(own),
         n,
         leaves,
         text,

@@ -139,10 +139,14 @@ pub fn entry(kid: &Kid) -> [u8; ENTRY] {
     entry
 }
 
-/// Drops every mark.
-pub fn drop_marks(memory: &mut [u8]) {
-    for mark in memory[MARKS..HEAD].chunks_mut(MARK) {
-        mark[0] = 0;
+/// Spoils what is not read of a head without marks.
+pub fn spoil_head(memory: &mut [u8]) {
+    for (at, new) in noise(0).into_iter().enumerate() {
+        let is_live = at >= MARKS && (at - MARKS) % MARK == 0;
+        let is_field = at <= HEIGHT || (FREE_SLOT..FREE_SLOT + 4).contains(&at);
+        if !is_live && !is_field {
+            memory[at] = new;
+        }
     }
 }
 

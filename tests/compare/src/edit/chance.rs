@@ -2,6 +2,7 @@
 //! the limits and of any size.
 
 use notes::edits::Edit;
+use notes::marks;
 use notes::texts::Random;
 
 use super::pair::Pair;
@@ -80,12 +81,23 @@ pub fn piece(random: &mut Random, len: usize) -> Vec<u8> {
     piece.into_bytes()
 }
 
-/// A place: three in eight about the end of a leaf, two about a line break, one an end of the note.
+/// A place past the end.
+pub fn past(random: &mut Random, pair: &Pair) -> usize {
+    let past = pair.rope.len_chars() + random.pick(&[1, 1, 2, 300]);
+    random.pick(&[past, past, past, u32::MAX as usize, usize::MAX])
+}
+
+/// A place: two in nine about a mark, three about the end of a leaf, two about a line break, one an
+/// end of the note.
 pub fn place(random: &mut Random, pair: &Pair) -> usize {
     let chars = pair.rope.len_chars();
     let any = random.below(chars + 1);
-    match random.below(8) {
+    match random.below(9) {
         0 => random.pick(&[0, chars]),
+        6 | 7 => match pair.marks.place(random.below(marks::MOST)) {
+            Ok(place) => (place + random.pick(&[0, 0, 0, 1])).min(chars),
+            Err(_) => any,
+        },
         1..=3 => {
             let end = pair.leaf_end(any) + random.pick(&[0, 0, 1, 2]);
             end.saturating_sub(random.pick(&[0, 0, 1])).min(chars)

@@ -1,14 +1,18 @@
-//! Our note in a lent memory beside the source's rope and the plain text, one edit of all, and what
-//! must then hold.
+//! Our note in a lent memory beside the source's rope, the plain text and plain marks, one edit of
+//! all, and what must then hold.
 
 use notes::asks::{Ask, Call, Part, CONVERSIONS};
 use notes::edits::{self, Edit};
+use notes::formed::Note;
 use notes::lent::Lent;
+use notes::marks::Marks;
+use notes::memory::HEAD;
 use notes::places::Measure;
 use notes::texts::Random;
 use notes::{build, formed, memory, ours};
 use ropey::Rope;
 
+use super::followers::Followers;
 use super::tally::{Event, Group};
 use crate::note::source;
 
@@ -23,31 +27,36 @@ pub struct Pair {
     pub memory: Lent,
     pub rope: Rope,
     text: String,
+    pub marks: Marks,
+    pub followers: Followers,
     /// What lies behind the need, and must stay.
     behind: Vec<u8>,
 }
 
-/// The nodes of the tree.
-struct Shape {
-    leaves: usize,
-    lists: usize,
-    height: usize,
-}
-
 impl Pair {
-    /// An empty note, opened in memory full of noise.
+    /// An empty note, opened in memory full of noise, and noise again in what is not read of its
+    /// head.
     pub fn opened(random: &mut Random, n: usize) -> Pair {
-        let mut pair = Pair::lent(random, n, memory::noise(n), "");
-        assert_eq!(ours::open(&mut pair.memory, n), 0, "opening is accepted");
-        pair
+        let mut memory = Lent::new(&memory::noise(n));
+        assert_eq!(ours::open(&mut memory, n), 0, "opening is accepted");
+        memory::spoil_head(&mut memory);
+        Pair::lent(random, n, memory.to_vec(), "")
     }
 
-    /// A note of any text of about this length, its tree in a shape that chance picks, without
-    /// marks.
+    /// A note of any text of about this length, its tree in a shape that chance picks. Some marks are
+    /// live or all, and some edit numbers are about to return to 0.
     pub fn laid_out(random: &mut Random, n: usize, len: usize) -> Pair {
         let text = random.note_text(len);
         let mut bytes = build::well_formed(random, text.as_bytes(), n);
-        memory::drop_marks(&mut bytes);
+        let mut marks = Marks::of(&bytes);
+        let last = text.chars().count();
+        if random.below(4) == 0 {
+            marks.places.fill_with(|| Some(random.below(last + 1)));
+        }
+        if random.below(2) == 0 {
+            marks.edits = u32::MAX - random.below(40) as u32;
+        }
+        marks.put(&mut bytes);
         Pair::lent(random, n, bytes, &text)
     }
 
@@ -55,11 +64,14 @@ impl Pair {
         let len = random.pick(&[0, BEHIND]);
         let behind: Vec<u8> = (0..len).map(|_| random.below(256) as u8).collect();
         bytes.extend_from_slice(&behind);
+        let marks = Marks::of(&bytes);
         Pair {
             n,
             memory: Lent::new(&bytes),
             rope: Rope::from_str(text),
             text: text.to_string(),
+            followers: Followers::of(text.chars().count(), &marks),
+            marks,
             behind,
         }
     }
@@ -80,27 +92,15 @@ impl Pair {
         }
     }
 
-    fn shape(&self) -> Shape {
-        let of_kind = |kind| {
-            let is_of = |&slot: &usize| self.memory[memory::slot_start(slot)] == kind;
-            (0..self.n).filter(is_of).count()
-        };
-        Shape {
-            leaves: of_kind(memory::LEAF),
-            lists: of_kind(memory::LIST),
-            height: usize::from(self.memory[memory::HEIGHT]),
-        }
-    }
-
     /// Edits both, or holds ours to the refusal that is due. Tells whether the edit was accepted, or
     /// what differs.
     pub fn edit(&mut self, edit: &Edit, group: &mut Group) -> Result<bool, String> {
         let due = edits::due(edit, self.n, self.rope.len_bytes(), self.rope.len_chars());
-        let is_idle = match edit {
-            Edit::Insert { piece, .. } => piece.is_empty(),
-            Edit::Remove { start, end } => start == end,
+        let is_idle = edit.is_idle();
+        let kept = match due.is_some() || is_idle {
+            true => self.memory.to_vec(),
+            false => self.memory[..HEAD].to_vec(),
         };
-        let kept = (due.is_some() || is_idle).then(|| self.memory.to_vec());
         let shape = self.shape();
         if due.is_none() {
             group.meet(Event::Idle, is_idle);
@@ -113,7 +113,7 @@ impl Pair {
         if refusal != due.unwrap_or(0) {
             return Err(format!("refused by {refusal}, due {due:?}"));
         }
-        if kept.is_some_and(|kept| kept[..] != self.memory[..]) {
+        if (due.is_some() || is_idle) && kept[..] != self.memory[..] {
             return Err("a call that changes nothing has changed the memory".to_string());
         }
         if let Some(refusal) = due {
@@ -133,6 +133,9 @@ impl Pair {
         group.accepted(usize::from(self.memory[memory::HEIGHT]));
         if !is_idle {
             self.look_back(&shape, edit, group);
+            self.marks.edit(edit);
+            self.followers.edit(edit);
+            self.hold_head(kept)?;
         }
         Ok(true)
     }
@@ -167,53 +170,6 @@ impl Pair {
         Ok(())
     }
 
-    /// Counts what an edit that is accepted will meet.
-    fn foresee(&self, edit: &Edit, group: &mut Group) {
-        let at = |place: usize, c: char| self.rope.get_char(place) == Some(c);
-        let behind = |place: usize, c: char| place > 0 && at(place - 1, c);
-        let begins = match edit {
-            Edit::Insert { place, piece } => {
-                let (behind_cr, at_lf) = (behind(*place, '\r'), at(*place, '\n'));
-                group.meet(Event::Insertion, true);
-                group.meet(Event::BetweenCrLf, behind_cr && at_lf);
-                group.meet(Event::CrBeforeLf, piece.ends_with(b"\r") && at_lf);
-                group.meet(Event::LfAfterCr, piece.starts_with(b"\n") && behind_cr);
-                *place
-            }
-            Edit::Remove { start, end } => {
-                let joins = behind(*start, '\r') && at(*end, '\n');
-                let parts = |place: usize| behind(place, '\r') && at(place, '\n');
-                group.meet(Event::Removal, true);
-                group.meet(Event::CrLfJoined, joins);
-                group.meet(Event::CrLfParted, parts(*start) != parts(*end));
-                *start
-            }
-        };
-        let is_inside = 0 < begins && begins < self.rope.len_chars();
-        group.meet(
-            Event::AtSeam,
-            is_inside && self.leaf_end(begins - 1) == begins,
-        );
-    }
-
-    /// Counts what an edit that changed the text has made of the tree.
-    fn look_back(&self, before: &Shape, edit: &Edit, group: &mut Group) {
-        let after = self.shape();
-        let is_removal = matches!(edit, Edit::Remove { .. });
-        let is_empty = self.rope.len_bytes() == 0;
-        group.meet(Event::MoreLeaves, after.leaves > before.leaves);
-        group.meet(Event::FewerLeaves, after.leaves < before.leaves);
-        group.meet(Event::MoreLists, after.lists > before.lists);
-        group.meet(Event::FewerLists, after.lists < before.lists);
-        group.meet(Event::RootGrew, after.height > before.height);
-        group.meet(Event::RootShrank, after.height < before.height);
-        group.meet(Event::Full, !is_removal && self.room() == 0);
-        group.meet(Event::Emptied, is_removal && is_empty);
-        group.meet(Event::WholeRemoved, is_empty && before.leaves > 1);
-        let removed = before.leaves.saturating_sub(after.leaves);
-        group.meet(Event::LeavesRemoved, removed >= 3);
-    }
-
     /// What must hold after an edit.
     pub fn hold(&self, random: &mut Random, edit: &Edit, group: &mut Group) -> Result<(), String> {
         let own = memory::need(self.n);
@@ -232,10 +188,7 @@ impl Pair {
             self.compare(call, 0, group)?;
         }
         let (first, last) = match edit {
-            Edit::Insert { place, piece } => {
-                let is_start = |byte: &&u8| *byte & 0xC0 != 0x80;
-                (*place, place + piece.iter().filter(is_start).count())
-            }
+            Edit::Insert { place, .. } => (*place, place + edit.new_chars()),
             Edit::Remove { start, .. } => (*start, *start),
         };
         for _ in 0..ASKED {
@@ -245,15 +198,16 @@ impl Pair {
             let index = self.index(random, from, place);
             self.compare(call, index, group)?;
         }
+        self.hold_marks(random, group)?;
         self.compare_text(group)
     }
 
-    /// Holds the memory to the plain model.
-    pub fn hold_model(&self) -> Result<(), String> {
+    /// Holds the memory to the plain model, and gives the note that it finds.
+    pub fn hold_model(&self) -> Result<Note, String> {
         match formed::note(&self.memory) {
             None => Err("the model finds it not well formed".to_string()),
             Some(note) if note.text != self.text => Err("the model finds another text".to_string()),
-            Some(_) => Ok(()),
+            Some(note) => Ok(note),
         }
     }
 

@@ -1,4 +1,5 @@
-//! Counts the edits, what happened in them and the differences, and shows the first ones.
+//! Counts the edits, markings and queries, what happened in them and the differences, and shows the
+//! first ones.
 
 use crate::tally::Totals;
 
@@ -30,9 +31,18 @@ pub enum Event {
     LfAfterCr,
     CrLfJoined,
     CrLfParted,
+    Set,
+    Dropped,
+    Reused,
+    PastFull,
+    AtMark,
+    MarkAtStart,
+    MarkInside,
+    MarkAtEnd,
+    Returned,
 }
 
-const NAMES: [&str; 19] = [
+const NAMES: [&str; 28] = [
     "insertions",
     "removals",
     "edits that change nothing",
@@ -52,10 +62,19 @@ const NAMES: [&str; 19] = [
     "pieces that begin with LF put behind CR",
     "removals that bring CR and LF together",
     "removals of one of CR and LF",
+    "marks set",
+    "marks dropped",
+    "marks set with a number below a live one's",
+    "marks set past the end while all are live, refused by 3",
+    "insertions at a mark",
+    "removals that start at a mark",
+    "removals with a mark inside",
+    "removals that end at a mark",
+    "edit numbers that returned to 0",
 ];
 
-/// The refusals that an edit has.
-const REFUSALS: [usize; 5] = [2, 3, 4, 5, 6];
+/// The refusals that a call of a note has.
+const REFUSALS: [usize; 9] = [1, 2, 3, 4, 5, 6, 7, 8, 9];
 
 /// The counts of the whole part.
 #[derive(Default)]
@@ -63,7 +82,7 @@ pub struct Tally {
     asks: u64,
     events: [u64; NAMES.len()],
     heights: [u64; HEIGHTS],
-    refused: [u64; 7],
+    refused: [u64; 10],
     misplaced: u64,
 }
 
@@ -72,9 +91,9 @@ impl Tally {
         let mut group = Group::default();
         run(&mut group);
         let of = &group.counts;
-        let refused = of.refused.iter().sum();
-        let edits: u64 = of.heights.iter().sum();
-        totals.add(name, edits + refused, refused, group.differences);
+        let [edits, markings, refused] = of.sums();
+        let cases = edits + markings + of.asks + refused;
+        totals.add(name, cases, refused, group.differences);
         self.asks += of.asks;
         add(&mut self.events, &of.events);
         add(&mut self.heights, &of.heights);
@@ -82,9 +101,23 @@ impl Tally {
         self.misplaced += of.misplaced;
     }
 
+    /// Edits that were accepted, marks set and dropped, and calls that were refused.
+    fn sums(&self) -> [u64; 3] {
+        let markings = self.events[Event::Set as usize] + self.events[Event::Dropped as usize];
+        [
+            self.heights.iter().sum(),
+            markings,
+            self.refused.iter().sum(),
+        ]
+    }
+
     /// Prints the counts. What was never met counts as a difference.
     pub fn close(&self, totals: &mut Totals) {
-        println!("  asks after the edits: {}", self.asks);
+        let [edits, markings, refused] = self.sums();
+        println!("  edits accepted: {edits}");
+        println!("  marks set or dropped: {markings}");
+        println!("  queries answered: {}", self.asks);
+        println!("  calls refused: {refused}");
         for (name, count) in NAMES.iter().zip(self.events) {
             println!("  {name}: {count}");
         }

@@ -1,7 +1,7 @@
 //! The groups of the comparison: small notes asked at every index, and large ones at the seams and
 //! at any index.
 
-use notes::asks::{Ask, Part, CONVERSIONS, TOTALS, UNTOUCHED};
+use notes::asks::{Ask, Part, CONVERSIONS, OF_MARKS, TOTALS, UNTOUCHED};
 use notes::build;
 use notes::formed::{self, Note};
 use notes::lent::Lent;
@@ -119,14 +119,21 @@ fn any_index(random: &mut Random, note: &Note, by: Measure) -> usize {
     }
 }
 
-/// The totals, copies and previews at any places, and the runs from a place on, joined.
+/// The totals, marks, copies and previews at any places, and the runs from a place on, joined.
 fn others(random: &mut Random, case: &Case, asked: usize, group: &mut Group) {
     let note = case.note;
     group.compare(case, &Ask::Check);
     for call in TOTALS {
         group.compare(case, &Ask::Read(call, 0));
     }
-    for number in [0, 15, 255] {
+    for call in OF_MARKS {
+        for _ in 0..asked.min(8) {
+            let mark = random.below(260);
+            group.compare(case, &Ask::Read(call, mark));
+        }
+        group.compare(case, &Ask::Read(call, usize::MAX));
+    }
+    for number in [0, 17, 255] {
         let is_refused = ours::read(number, case.memory, 0) == (10, UNTOUCHED);
         group.hold(case, is_refused, "a number that names no call");
     }

@@ -10,7 +10,7 @@ pub fn ask(rope: &Rope, call: Call, index: usize) -> Option<usize> {
         Call::LenChars => rope.len_chars(),
         Call::LenUtf16Cu => rope.len_utf16_cu(),
         Call::LenLines => rope.len_lines(),
-        Call::Slots | Call::EditNumber => return None,
+        Call::Slots | Call::EditNumber | Call::MarkPlace | Call::MarkLine => return None,
         Call::ByteToChar => rope.byte_to_char(index),
         Call::CharToByte => rope.char_to_byte(index),
         Call::ByteToLine => rope.byte_to_line(index),

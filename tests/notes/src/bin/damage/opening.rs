@@ -48,13 +48,11 @@ fn open(random: &mut Random, n: usize, before: &[u8], group: &mut Tally) {
         return;
     }
     let is_new = formed::note(&memory).map_or(false, |note| {
-        note.text.is_empty() && note.edit == 0 && note.n == n
+        note.text.is_empty() && note.marks.edits == 0 && note.marks.live() == 0 && note.n == n
     });
-    let marks = memory[memory::MARKS..memory::HEAD].chunks(memory::MARK);
-    let is_free = marks.clone().all(|mark| mark[0] == 0);
     let behind = memory::need(n);
     group.count(
-        refusal == 0 && is_new && is_free && memory[behind..] == before[behind..],
+        refusal == 0 && is_new && memory[behind..] == before[behind..],
         &what,
     );
     group.hold(random, &memory, &what);

@@ -3,10 +3,11 @@
 use std::fmt::Debug;
 use std::time::{Duration, Instant};
 
-use notes::asks::{self, Ask, CONVERSIONS, TOTALS};
+use notes::asks::{self, Ask, CONVERSIONS, OF_MARKS, TOTALS, UNTOUCHED};
 use notes::edits::{self, Edit};
 use notes::formed;
 use notes::lent::Lent;
+use notes::marks::{self, Marking};
 use notes::ours;
 use notes::texts::Random;
 
@@ -57,7 +58,8 @@ impl Tally {
         self.differences == 0
     }
 
-    /// Asks a memory: the check always; of a note every call that reads, else some and an edit.
+    /// Asks a memory: the check always; of a note every call that reads, else some, an edit and a
+    /// mark set or dropped.
     pub fn hold(&mut self, random: &mut Random, memory: &[u8], what: &dyn Fn() -> String) {
         self.before.clear();
         self.before.extend_from_slice(memory);
@@ -83,6 +85,7 @@ impl Tally {
         ];
         asks.extend(TOTALS.map(|call| Ask::Read(call, 0)));
         asks.extend(CONVERSIONS.map(|call| Ask::Read(call, any())));
+        asks.extend(OF_MARKS.map(|call| Ask::Read(call, random.below(marks::MOST + 4))));
         if note.is_none() {
             self.turn += ASKED;
             let turn = self.turn % asks.len();
@@ -103,38 +106,66 @@ impl Tally {
             self.differ("a call has changed the memory", what);
         }
         if note.is_none() {
-            let edit = if random.below(2) == 0 {
-                Edit::Insert {
-                    place: start,
-                    piece: piece.into(),
-                }
-            } else {
-                let end = start + random.below(40);
-                Edit::Remove { start, end }
-            };
-            self.hold_edit(memory, &edit, what);
+            self.hold_changes(random, start, piece, what);
         }
     }
 
-    /// An edit of a memory that is not well formed: refused by 2, and no byte is changed.
-    fn hold_edit(&mut self, memory: &[u8], edit: &Edit, what: &dyn Fn() -> String) {
-        let mut copy = Lent::new(memory);
-        let began = Instant::now();
-        let ours = edits::edit(&mut copy, edit);
-        let took = began.elapsed();
-        self.asks += 1;
-        if ours != (2, edits::UNTOUCHED) {
-            self.differ(&format!("{edit:?}: ours {ours:?}, due refusal 2"), what);
-        }
-        if copy[..] != *memory {
-            self.differ(&format!("{edit:?} has changed the memory"), what);
-        }
-        let mut again = || {
-            let began = Instant::now();
-            edits::edit(&mut copy, edit);
-            began.elapsed()
+    /// An edit and a mark set or dropped, in a copy of a memory that is not well formed.
+    fn hold_changes(
+        &mut self,
+        random: &mut Random,
+        start: usize,
+        piece: &str,
+        what: &dyn Fn() -> String,
+    ) {
+        let mut copy = Lent::new(&self.before);
+        let edit = if random.below(2) == 0 {
+            Edit::Insert {
+                place: start,
+                piece: piece.into(),
+            }
+        } else {
+            let end = start + random.below(40);
+            Edit::Remove { start, end }
         };
-        self.in_time(edit, took, &mut again, what);
+        let refused = (2, edits::UNTOUCHED);
+        self.hold_refused(&mut copy, &edit, what, |memory| {
+            edits::edit(memory, &edit) == refused
+        });
+
+        let marking = match random.below(2) {
+            0 => Marking::Set(start),
+            _ => Marking::Drop(random.below(marks::MOST + 4)),
+        };
+        let refused = (2, UNTOUCHED);
+        self.hold_refused(&mut copy, &marking, what, |memory| {
+            marks::mark(memory, marking) == refused
+        });
+    }
+
+    /// A call that changes a note, of a memory that is not well formed: it is refused by 2, and no
+    /// byte is changed.
+    fn hold_refused(
+        &mut self,
+        memory: &mut [u8],
+        call: &dyn Debug,
+        what: &dyn Fn() -> String,
+        is_refused: impl Fn(&mut [u8]) -> bool,
+    ) {
+        let mut timed = || {
+            let began = Instant::now();
+            let holds = is_refused(memory);
+            (holds, began.elapsed())
+        };
+        let (holds, took) = timed();
+        self.asks += 1;
+        self.in_time(call, took, &mut || timed().1, what);
+        if !holds {
+            self.differ(&format!("{call:?} is not refused by 2"), what);
+        }
+        if memory != &self.before[..] {
+            self.differ(&format!("{call:?} has changed the memory"), what);
+        }
     }
 
     fn in_time(
