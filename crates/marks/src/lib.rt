@@ -20,7 +20,12 @@ ghost use Rattle.marks.specs.MarkBytes.{standingIn, markSet, markMoved, 
 
 const HEAD_BYTES: usize = 6144;
 
+// The marks, 16 bytes each, of which the first says whether it is live.
 const MARKS: usize = 256;
+
+const MARKS_AT: usize = 2048;
+
+const MARK_BYTES: usize = 16;
 
 // The lowest number of a mark that is not live; 256 where all are.
 pub fn lowest_free(m: &[u8]) -> usize
@@ -80,11 +85,12 @@ fn moved_to(s: usize, e: usize, new: u32, q: usize) -> usize
     q - (e - s) + new as usize
 }
 
+// Most marks are free, and an edit looks at all of them: so the byte is read where it lies.
 fn move_mark(m: &mut [u8], k: usize, s: usize, e: usize, new: u32)
     requires { ⌜ (6144 ≤ length (now m)) × (k < 256) ⌝ }
     ensures { λ _. ⌜ now (m .exit) ≡ markMoved (movedTo s e new) (now (m .entry)) k ⌝ }
 {
-    if mark_live(m, k) != 1 {
+    if m[MARKS_AT + MARK_BYTES * k] != 1 {
         return;
     }
     let q = moved_to(s, e, new, mark_place(m, k));

@@ -12,10 +12,11 @@ use ropey::Rope;
 
 const SLOTS: usize = 4_096;
 
-/// At each place the same edits are made so often, ours and then the rope's, and the least time of each is
-/// taken: what else the machine does only adds to a time, and the check takes far longer than the edit.
-const PLACES: usize = 600;
-const TURNS: usize = 5;
+/// Edits are timed in blocks, ours and the rope's in turn, so that a change in the machine's pace
+/// meets both alike, and each finds its own memory in the caches. The first blocks are left out.
+const WARM_UPS: usize = 4;
+const BLOCKS: usize = 60;
+const BLOCK: usize = 50;
 
 /// An edit of the same kind that is refused after the check: the check as it is compiled there. That of
 /// `wol_note_check` is compiled by itself, and the two differ by more than an edit may cost.
@@ -43,25 +44,26 @@ pub fn measure(name: &str, text: &str) {
     for chars in [1, 20] {
         let piece: String = text.chars().take(chars).collect();
         let (mut inserted, mut removed) = (Times::default(), Times::default());
-        for _ in 0..PLACES {
-            let place = random.below(rope.len_chars() + 1);
-            let end = place + chars;
-            let insertion = Edit::Insert {
-                place,
-                piece: piece.clone().into_bytes(),
-            };
-            let removal = Edit::Remove { start: place, end };
-            let (mut put, mut cut) = (Least::new(), Least::new());
-            for _ in 0..TURNS {
-                put.time_ours(&mut memory, &insertion);
-                cut.time_ours(&mut memory, &removal);
+        for block in 0..WARM_UPS + BLOCKS {
+            if block == WARM_UPS {
+                (inserted, removed) = (Times::default(), Times::default());
             }
-            for _ in 0..TURNS {
-                put.time_rust(|| rope.insert(black_box(place), black_box(&piece)));
-                cut.time_rust(|| rope.remove(black_box(place)..black_box(end)));
+            let places: Vec<usize> = (0..BLOCK)
+                .map(|_| random.below(rope.len_chars() + 1))
+                .collect();
+            for &place in &places {
+                let insertion = Edit::Insert {
+                    place,
+                    piece: piece.clone().into_bytes(),
+                };
+                inserted.time_ours(&mut memory, &insertion);
+                let end = place + chars;
+                removed.time_ours(&mut memory, &Edit::Remove { start: place, end });
             }
-            inserted.push(put);
-            removed.push(cut);
+            for &place in &places {
+                inserted.time_rust(|| rope.insert(black_box(place), black_box(&piece)));
+                removed.time_rust(|| rope.remove(black_box(place)..black_box(place + chars)));
+            }
         }
         let unit = if chars == 1 { "char" } else { "chars" };
         inserted.print(name, &format!("insert {chars} {unit}"));
@@ -96,41 +98,7 @@ fn note_of(text: &str) -> (Lent, Rope) {
     (memory, rope)
 }
 
-/// The least nanoseconds of one edit: the check alone, ours with it, and the rope's beyond the clock.
-struct Least {
-    check: i64,
-    whole: i64,
-    rust: i64,
-}
-
-impl Least {
-    fn new() -> Least {
-        Least {
-            check: i64::MAX,
-            whole: i64::MAX,
-            rust: i64::MAX,
-        }
-    }
-
-    fn time_ours(&mut self, memory: &mut [u8], edit: &Edit) {
-        let refused = check_alone(edit);
-        self.check = self.check.min(nanoseconds(|| {
-            let (refusal, _) = edits::edit(black_box(memory), &refused);
-            assert_eq!(refusal, 3, "{refused:?}");
-        }));
-        self.whole = self.whole.min(nanoseconds(|| {
-            let (refusal, _) = edits::edit(black_box(memory), edit);
-            assert_eq!(refusal, 0, "{edit:?}");
-        }));
-    }
-
-    fn time_rust(&mut self, edit: impl FnOnce()) {
-        let clock = nanoseconds(|| ());
-        self.rust = self.rust.min(nanoseconds(edit) - clock);
-    }
-}
-
-/// The edits of one kind, place by place: ours beyond the check, the check, and the rope's.
+/// Nanoseconds of each edit: ours beyond the check, the check, and the rope's beyond the clock.
 #[derive(Default)]
 struct Times {
     ours: Vec<i64>,
@@ -139,10 +107,23 @@ struct Times {
 }
 
 impl Times {
-    fn push(&mut self, least: Least) {
-        self.ours.push(least.whole - least.check);
-        self.check.push(least.check);
-        self.rust.push(least.rust);
+    fn time_ours(&mut self, memory: &mut [u8], edit: &Edit) {
+        let refused = check_alone(edit);
+        let check = nanoseconds(|| {
+            let (refusal, _) = edits::edit(black_box(memory), &refused);
+            assert_eq!(refusal, 3, "{refused:?}");
+        });
+        let whole = nanoseconds(|| {
+            let (refusal, _) = edits::edit(black_box(memory), edit);
+            assert_eq!(refusal, 0, "{edit:?}");
+        });
+        self.check.push(check);
+        self.ours.push(whole - check);
+    }
+
+    fn time_rust(&mut self, edit: impl FnOnce()) {
+        let clock = nanoseconds(|| ());
+        self.rust.push(nanoseconds(edit) - clock);
     }
 
     fn print(self, name: &str, edit: &str) {
