@@ -3,8 +3,8 @@ use mathlib.Core.Path.{sym, _∙_}
 use Rattle.note_promise.proofs.MarkCalls.{place-2, place-told}
 use borrow.Author.Needs.{needs}
 use borrow.Author.Tests.{not-true, not-false}
-use Rattle.note.proofs.mark_place.Statement.{statement}
-use Rattle.note.proofs.mark_place.Tie as tie
+use Rattle.mark_calls.proofs.mark_place.Statement.{statement}
+use Rattle.mark_calls.proofs.mark_place.Tie as tie
 
 check-requires : tie.Need-check-requires
 check-requires c κs = search needs

@@ -5,8 +5,8 @@ use Rattle.answer.specs.Answers.{number}
 use Rattle.note_promise.proofs.MarkCalls.{drop-2, drop-7, dropped}
 use borrow.Author.Needs.{needs}
 use borrow.Author.Tests.{not-true, not-false}
-use Rattle.note.proofs.drop_mark.Statement.{statement}
-use Rattle.note.proofs.drop_mark.Tie as tie
+use Rattle.mark_calls.proofs.drop_mark.Statement.{statement}
+use Rattle.mark_calls.proofs.drop_mark.Tie as tie
 
 check-requires : tie.Need-check-requires
 check-requires c κs = search needs

@@ -6,8 +6,8 @@ use Rattle.note_promise.proofs.MarkCalls.{set-2, set-3, set-8, set-done}
 use Rattle.marks.proofs.Rules.{set-there}
 use borrow.Author.Needs.{needs}
 use borrow.Author.Tests.{not-true, not-false}
-use Rattle.note.proofs.set_mark.Statement.{statement}
-use Rattle.note.proofs.set_mark.Tie as tie
+use Rattle.mark_calls.proofs.set_mark.Statement.{statement}
+use Rattle.mark_calls.proofs.set_mark.Tie as tie
 
 check-requires : tie.Need-check-requires
 check-requires c κs = search needs

@@ -4,8 +4,8 @@ use Rattle.answer.specs.Answers.{number}
 use Rattle.note_promise.proofs.MarkCalls.{line-2, line-refused, line-told}
 use borrow.Author.Needs.{needs}
 use borrow.Author.Tests.{not-true, not-false}
-use Rattle.note.proofs.mark_line.Statement.{statement}
-use Rattle.note.proofs.mark_line.Tie as tie
+use Rattle.mark_calls.proofs.mark_line.Statement.{statement}
+use Rattle.mark_calls.proofs.mark_line.Tie as tie
 
 standing-at-requires : tie.Need-standing-at-requires
 standing-at-requires c κs = search needs
