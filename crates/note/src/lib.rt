@@ -38,10 +38,10 @@ pub use runs::run_refusal;
 
 // ── marks ──
 
-pub use mark_calls::set_mark;
 pub use mark_calls::drop_mark;
-pub use mark_calls::mark_place;
 pub use mark_calls::mark_line;
+pub use mark_calls::mark_place;
+pub use mark_calls::set_mark;
 
 // ── edits: how many lines more the note has ──
 
