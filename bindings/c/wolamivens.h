@@ -84,8 +84,8 @@ uint8_t wol_note_drop_mark(uint8_t *memory, size_t len, size_t mark);
 uint8_t wol_note_copy(const uint8_t *memory, size_t len, size_t start, size_t end, uint8_t *out, size_t out_len, uint64_t *count);
 
 /* Hands a run out: *part is a part of the memory with whole chars, the first of them the char at the place; it is empty at the end alone. The
-   next run is that of the place behind its chars, and runs joined are the note from the place on. Refused, with an empty part: WOL_MEMORY,
-   WOL_PLACE. */
+   next run is that of the place behind its chars, and runs joined are the note from the place on. Each checks the memory anew, so that a long
+   text is had sooner by one wol_note_copy. Refused, with an empty part: WOL_MEMORY, WOL_PLACE. */
 uint8_t wol_note_run(const uint8_t *memory, size_t len, size_t place, struct wol_part *part);
 
 /* Hands out what an insertion would give, without it: *part is a part of the memory or of the piece, which begins with the char at place `from`

@@ -113,7 +113,8 @@ impl<'a> Note<'a> {
         sys::run(self.memory, place.0).map(text)
     }
 
-    /// All runs from a place on. Refused by [`Refusal::Place`].
+    /// All runs from a place on. Each checks the memory anew, so that a long text is had sooner by one
+    /// [`Note::copy_out`]. Refused by [`Refusal::Place`].
     pub fn runs(&self, place: Place) -> Result<Runs<'_>, Refusal> {
         self.run(place)?;
         Ok(Runs::new(self, place))
