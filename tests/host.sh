@@ -1,6 +1,6 @@
-# Sourced by the scripts beside it. Sets `cargo`, and on a processor that is no x86-64, which the libraries are compiled for, `other`, the
-# target that a test is built for, and `runner`, the emulator that it runs under. That needs Debian's rustc and cargo, libstd-rust-dev:amd64,
-# libc6-dev:amd64, gcc-x86-64-linux-gnu and qemu-user-static.
+# Sourced by the scripts beside it and by bindings/test.sh. Sets `cargo`, and on a processor that is no x86-64, which the libraries are compiled
+# for, `other`, the target that a test is built for, and `runner`, the emulator that it runs under. That needs Debian's rustc and cargo,
+# libstd-rust-dev:amd64, libc6-dev:amd64, gcc-x86-64-linux-gnu and qemu-user-static.
 
 skip() {
     echo "$(basename "$0" .sh): skipped, $1"
