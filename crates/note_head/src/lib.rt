@@ -1,4 +1,4 @@
-// The head of the lent memory, read. Each function is total on any bytes: a byte past the memory's end counts as 0.
+// The head of the lent memory, read, and numbers of two and four bytes anywhere. Each function is total on any bytes: a byte past the end counts as 0.
 use pool::Kid;
 use text_info::TextInfo;
 ghost use mathlib.Core.Path.{_≡_};
@@ -30,7 +30,7 @@ fn wide(x: u8) -> u32
     x as u32
 }
 
-fn byte_at(m: &[u8], at: usize) -> u8
+pub fn byte_at(m: &[u8], at: usize) -> u8
     ensures { λ r. ⌜ r ≡ getD (now (m .entry)) at 0 ⌝ }
 {
     if at < m.len() {
@@ -40,7 +40,7 @@ fn byte_at(m: &[u8], at: usize) -> u8
 }
 
 // The number of two bytes, the most significant first, and of four.
-fn two_at(m: &[u8], at: usize) -> u32
+pub fn two_at(m: &[u8], at: usize) -> u32
     ensures { λ r. ⌜ (r ≡ twoAt (now (m .entry)) at) × (r < 65536) ⌝ }
 {
     if m.len() <= at {
@@ -49,7 +49,7 @@ fn two_at(m: &[u8], at: usize) -> u32
     wide(byte_at(m, at)) * 256 + wide(byte_at(m, at + 1))
 }
 
-fn number_at(m: &[u8], at: usize) -> u32
+pub fn number_at(m: &[u8], at: usize) -> u32
     ensures { λ r. ⌜ (r ≡ fourAt (now (m .entry)) at) × (r < 4294967296) ⌝ }
 {
     if m.len() <= at {
