@@ -1,1 +1,4 @@
+pub mod Framing
+pub mod Asked
+pub mod Listed
 pub mod Shown

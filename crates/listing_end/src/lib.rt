@@ -1,0 +1,65 @@
+// The end of a listing, read from the lent memory: the totals, and a line for each live mark by number.
+use answer::Number;
+use listing_lines::put_mark;
+use listing_lines::put_totals;
+ghost use mathlib.Core.Path.{_≡_};
+ghost use mathlib.Core.Bool.{true};
+ghost use mathlib.Core.List.{_++_};
+ghost use Prim.Native.Nat.{_+_, _≤_, _<_};
+ghost use lib.ListN.{length, take};
+ghost use Rattle.plain.specs.Outcome.{kept};
+ghost use Rattle.answer.specs.Answers.{number};
+ghost use Rattle.plain_calls.specs.Marks.{markOf};
+ghost use Rattle.memory.specs.Formed.{wellFormed, noteOf};
+ghost use Rattle.plain_journal.specs.Listing.{markRow, markRows, ending};
+
+const MARKS: usize = 256;
+
+// A number, or 0 where it is refused.
+fn value_of(answer: Number) -> u64
+    ensures { λ r. ⌜ r ≡ kept 0 (number answer) ⌝ }
+{
+    let Number::Is(n) = answer else {
+        return 0;
+    };
+    n as u64
+}
+
+// The line of mark k, where it is live.
+fn put_row(m: &[u8], k: usize, out: &mut [u8], at: usize) -> usize
+    requires { ⌜ (wellFormed (now m) ≡ true) × (at + 80 ≤ length (now out)) ⌝ }
+    ensures { λ r. ⌜ (r ≤ at + 80) × (take r (now (out .exit)) ≡ take at (now (out .entry)) ++ markRow (noteOf (now (m .entry)) .text) k (markOf (noteOf (now (m .entry))) k)) ⌝ }
+{
+    let place = note::mark_place(m, k);
+    let Number::Is(p) = place else {
+        return at;
+    };
+    let line = note::mark_line(m, k);
+    put_mark(out, at, k as u64, p as u64, value_of(line))
+}
+
+fn put_rows(m: &[u8], out: &mut [u8], at: usize) -> usize
+    requires { ⌜ (wellFormed (now m) ≡ true) × (at + 20480 ≤ length (now out)) ⌝ }
+    ensures { λ r. ⌜ (r ≤ at + 20480) × (take r (now (out .exit)) ≡ take at (now (out .entry)) ++ markRows (noteOf (now (m .entry)) .text) 0 (noteOf (now (m .entry)) .marks)) ⌝ }
+{
+    let mut k = 0;
+    let mut put = at;
+    while k < MARKS {
+        put = put_row(m, k, out, put);
+        k += 1;
+    }
+    put
+}
+
+// The totals, and the marks.
+pub fn put_ending(m: &[u8], out: &mut [u8], at: usize) -> usize
+    requires { ⌜ (wellFormed (now m) ≡ true) × (at + 20590 ≤ length (now out)) ⌝ }
+    ensures { λ r. ⌜ (r ≤ at + 20590) × (take r (now (out .exit)) ≡ take at (now (out .entry)) ++ ending (noteOf (now (m .entry)))) ⌝ }
+{
+    let bytes = value_of(note::len_bytes(m));
+    let chars = value_of(note::len_chars(m));
+    let units = value_of(note::len_utf16_cu(m));
+    let lines = value_of(note::len_lines(m));
+    let a = put_totals(out, at, bytes, chars, units, lines);
+    put_rows(m, out, a)
+}

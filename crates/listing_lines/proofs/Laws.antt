@@ -1,0 +1,71 @@
+-- What is put behind an output's first bytes; that the digits of `io::decimal` are those of `decimal`; and the lines by their pieces.
+use mathlib.Core.Path.{_≡_, refl, ap, _∙_}
+use mathlib.Core.Bool.{cond}
+use mathlib.Core.List.{List, _++_, append-assoc}
+use Prim.Native.Nat.{ℕ, zero, suc, _+_, _-_, _*_, _/_, _%_, _^_, _≤_, _<_}
+use native.Mathlib.Omega.{arith}
+use native.Mathlib.Nat.{not-suc-le-zero, le-of-suc-le-suc, pow-succ', one-le-pow, pow-le-pow-right}
+use borrow.Author.Tests.{lt-ltb, le-ltb}
+use lib.Dec.{eqb}
+use lib.ListN.{length, take, length-append}
+use lib.Seq.{length-take-le, take-at, take-length}
+use Rattle.io.specs.Digits.{digits, Fewest}
+use Rattle.plain_journal.specs.Listing.{decimalBy, decimal, lineEnd, okText, refusedText, bytesText, charsText, unitsText, linesText, markText, placeText, lineText, fieldLine, totalsLine, markLine}
+
+-- ── pieces ──
+
+-- piece p, copied over what stood behind the first `at` bytes of o
+pub put-is : (o p d m z : List ℕ) (at n : ℕ) → at ≤ length o → n ≡ length p → d ≡ take (length p) p ++ m → take (at + n) (take at o ++ (d ++ z)) ≡ take at o ++ p
+put-is o p d m z at n h e f = rw (f, take-length p, append-assoc p m z, ← append-assoc (take at o) p (m ++ z)) (take-at (take at o ++ p) (m ++ z) (at + n) (length-append (take at o) p ∙ omega (arith, length-take-le at o h)))
+
+-- two pieces put one behind the other
+pub then-is : (o p q : List ℕ) {a b : List ℕ} → a ≡ o ++ p → b ≡ a ++ q → b ≡ o ++ (p ++ q)
+then-is o p q e f = f ∙ ap (λ (l : List ℕ). l ++ q) e ∙ append-assoc o p q
+
+-- ── digits ──
+
+-- the fewest digits that hold n: each is below 10, so that its `glyph` is 48 and the digit
+digits-are : (r f n : ℕ) → r ≤ f → Fewest 10 1 n r → digits 10 r n ≡ decimalBy f n
+unfolding decimalBy
+digits-are zero f n h w = absurd (not-suc-le-zero (w .0))
+digits-are (suc r) zero n h w = absurd (not-suc-le-zero h)
+digits-are (suc zero) (suc f) n h w =
+    let same : n % 10 ≡ n = omega (arith, w .1) in
+    rw (same, lt-ltb n 10 (w .1))
+digits-are (suc (suc r)) (suc f) n h w =
+    let pos : 0 < 10 ^ r = one-le-pow r 10 (omega arith) in
+    let e1 : 10 ^ suc r ≡ 10 * 10 ^ r = pow-succ' 10 r in
+    let e2 : 10 ^ suc (suc r) ≡ 10 * 10 ^ suc r = pow-succ' 10 (suc r) in
+    let one : suc (suc r) - 1 ≡ suc r = omega arith in
+    let two : suc r - 1 ≡ r = omega arith in
+    let low : 10 ^ suc r ≤ n = rw one at (w .2 (omega arith)) in
+    let less : n / 10 < 10 ^ suc r = omega (arith, w .1) in
+    rw (lt-ltb (n % 10) 10 (omega arith), le-ltb n 10 (omega arith), digits-are (suc r) f (n / 10) (le-of-suc-le-suc h) (omega arith, less, λ _. rw two (omega arith)))
+
+-- a number below 2 ^ 64 has at most 20 digits
+pub places-le : (r n : ℕ) → n < 2 ^ 64 → Fewest 10 1 n r → r ≤ 20
+places-le r n h w =
+    let no : 20 < r → ⊥ = λ l. (
+    let k : 20 ≤ r - 1 = omega arith in
+    let m : 10 ^ 20 ≤ 10 ^ (r - 1) = pow-le-pow-right (omega arith) k in
+    omega (arith, w .2 (omega arith))) in
+    omega (arith, no)
+
+-- what `io::decimal` writes of such a number
+pub decimal-is : (r n : ℕ) → n < 2 ^ 64 → Fewest 10 1 n r → digits 10 r n ≡ decimal n
+unfolding decimal
+decimal-is r n h w = digits-are r 20 n (places-le r n h w) w
+
+-- ── lines by their pieces ──
+
+pub field-is : (k c : ℕ) → fieldLine k c ≡ decimal k ++ (cond (eqb c 0) okText (refusedText ++ decimal c) ++ lineEnd)
+unfolding fieldLine
+field-is k c = refl
+
+pub totals-is : (b c u l : ℕ) → totalsLine b c u l ≡ (bytesText ++ decimal b) ++ ((charsText ++ decimal c) ++ ((unitsText ++ decimal u) ++ ((linesText ++ decimal l) ++ lineEnd)))
+unfolding totalsLine
+totals-is b c u l = refl
+
+pub mark-is : (k p l : ℕ) → markLine k p l ≡ (markText ++ decimal k) ++ ((placeText ++ decimal p) ++ ((lineText ++ decimal l) ++ lineEnd))
+unfolding markLine
+mark-is k p l = refl

@@ -1,0 +1,87 @@
+// The lines of a listing, written behind what an output already holds.
+ghost use mathlib.Core.Path.{_≡_};
+ghost use mathlib.Core.Bool.{cond};
+ghost use mathlib.Core.List.{_++_};
+ghost use Prim.Native.Nat.{_+_, _≤_};
+ghost use lib.Dec.{eqb};
+ghost use lib.ListN.{length, take};
+ghost use Rattle.plain_journal.specs.Listing.{decimal, okText, refusedText, fieldLine, totalsLine, markLine};
+
+// Puts piece behind the first `at` bytes of out.
+fn put(out: &mut [u8], at: usize, piece: &[u8]) -> usize
+    requires { ⌜ at + length (now piece) ≤ length (now out) ⌝ }
+    ensures { λ r. ⌜ (r ≡ at + length (now (piece .entry))) × (take r (now (out .exit)) ≡ take at (now (out .entry)) ++ now (piece .entry)) ⌝ }
+{
+    let n = bytes::copy(piece, &mut out[at..]);
+    at + n
+}
+
+// Puts the decimal digits of n there.
+fn put_decimal(out: &mut [u8], at: usize, n: u64) -> usize
+    requires { ⌜ at + 20 ≤ length (now out) ⌝ }
+    ensures { λ r. ⌜ (r ≤ at + 20) × (take r (now (out .exit)) ≡ take at (now (out .entry)) ++ decimal n) ⌝ }
+{
+    let mut digits = [0u8; 20];
+    let k = io::decimal(n, &mut digits);
+    put(out, at, &digits[..k])
+}
+
+// Puts a word there, and a number behind it.
+fn put_counted(out: &mut [u8], at: usize, word: &[u8], n: u64) -> usize
+    requires { ⌜ at + length (now word) + 20 ≤ length (now out) ⌝ }
+    ensures { λ r. ⌜ (r ≤ at + length (now (word .entry)) + 20) × (take r (now (out .exit)) ≡ take at (now (out .entry)) ++ (now (word .entry) ++ decimal n)) ⌝ }
+{
+    let a = put(out, at, word);
+    put_decimal(out, a, n)
+}
+
+// Puts there how a field went: " ok" where its number is 0, else " refused NUMBER".
+fn put_code(out: &mut [u8], at: usize, code: u8) -> usize
+    requires { ⌜ at + 29 ≤ length (now out) ⌝ }
+    ensures { λ r. ⌜ (r ≤ at + 29) × (take r (now (out .exit)) ≡ take at (now (out .entry)) ++ cond (eqb code 0) okText (refusedText ++ decimal code)) ⌝ }
+{
+    if code == 0 {
+        return put(out, at, b" ok");
+    }
+    put_counted(out, at, b" refused ", code as u64)
+}
+
+// Puts the line of field k there: "K ok" or "K refused NUMBER".
+pub fn put_field(out: &mut [u8], at: usize, k: u64, code: u8) -> usize
+    requires { ⌜ at + 50 ≤ length (now out) ⌝ }
+    ensures { λ r. ⌜ (r ≤ at + 50) × (take r (now (out .exit)) ≡ take at (now (out .entry)) ++ fieldLine k code) ⌝ }
+{
+    let a = put_decimal(out, at, k);
+    let b = put_code(out, a, code);
+    put(out, b, b"\n")
+}
+
+// Puts the totals there: "bytes B chars C utf16 U lines L".
+pub fn put_totals(
+    out: &mut [u8],
+    at: usize,
+    bytes: u64,
+    chars: u64,
+    utf16: u64,
+    lines: u64,
+) -> usize
+    requires { ⌜ at + 110 ≤ length (now out) ⌝ }
+    ensures { λ r. ⌜ (r ≤ at + 110) × (take r (now (out .exit)) ≡ take at (now (out .entry)) ++ totalsLine bytes chars utf16 lines) ⌝ }
+{
+    let a = put_counted(out, at, b"bytes ", bytes);
+    let b = put_counted(out, a, b" chars ", chars);
+    let c = put_counted(out, b, b" utf16 ", utf16);
+    let d = put_counted(out, c, b" lines ", lines);
+    put(out, d, b"\n")
+}
+
+// Puts the line of mark k there: "mark K place P line L".
+pub fn put_mark(out: &mut [u8], at: usize, k: u64, place: u64, line: u64) -> usize
+    requires { ⌜ at + 80 ≤ length (now out) ⌝ }
+    ensures { λ r. ⌜ (r ≤ at + 80) × (take r (now (out .exit)) ≡ take at (now (out .entry)) ++ markLine k place line) ⌝ }
+{
+    let a = put_counted(out, at, b"mark ", k);
+    let b = put_counted(out, a, b" place ", place);
+    let c = put_counted(out, b, b" line ", line);
+    put(out, c, b"\n")
+}
