@@ -7,10 +7,10 @@ use libc::STDERR_FILENO;
 use libc::STDIN_FILENO;
 use libc::STDOUT_FILENO;
 ghost use mathlib.Core.Path.{_≡_};
-ghost use mathlib.Core.Bool.{true, false};
+ghost use mathlib.Core.Bool.{false};
 ghost use Prim.Native.Nat.{_≤_, _<_};
 ghost use lib.ListN.{length};
-ghost use Rattle.memory.specs.Formed.{wellFormed};
+ghost use Rattle.recorder.specs.declared.Pumped.the-variants.{Failed as PumpedFailed};
 ghost use Rattle.recorder.specs.Program.{Running, Reads, Pumps};
 
 // What became of a turn: the program goes on, or a message was written and it ends.
@@ -26,7 +26,9 @@ fn memory() -> [u8; 57344]
     [0; 57344]
 }
 
-fn tell(text: &[u8]) -> Pumped {
+fn tell(text: &[u8]) -> Pumped
+    ensures { λ r. ⌜ r ≡ PumpedFailed ⌝ }
+{
     io::write_all(STDERR_FILENO, text);
     Pumped::Failed
 }
