@@ -1,4 +1,4 @@
--- Listings by computation: document 01's example, and journals that are empty, cut, and bad.
+-- Listings by computation: document 01's example, chars of several bytes, and journals that are empty, cut, and bad.
 use mathlib.Core.Path.{_≡_, refl}
 use mathlib.Core.List.{List, [], _∷_, _++_}
 use Prim.Native.Nat.{ℕ}
@@ -21,6 +21,11 @@ output = 49 ∷ 32 ∷ 111 ∷ 107 ∷ 10 ∷ 50 ∷ 32 ∷ 111 ∷ 107 ∷ 10 �
 pub example : listing input ≡ output
 unfolding listing validUtf8 encode decode total unitWidth breaks movedTo
 example = refl
+
+-- chars of two and of four bytes, "1 ok", "bytes 6 chars 2 utf16 3 lines 1"
+pub wide : listing (1 ∷ 0 ∷ 10 ∷ 0 ∷ 0 ∷ 0 ∷ 0 ∷ 195 ∷ 169 ∷ 240 ∷ 159 ∷ 152 ∷ 128 ∷ []) ≡ 49 ∷ 32 ∷ 111 ∷ 107 ∷ 10 ∷ 98 ∷ 121 ∷ 116 ∷ 101 ∷ 115 ∷ 32 ∷ 54 ∷ 32 ∷ 99 ∷ 104 ∷ 97 ∷ 114 ∷ 115 ∷ 32 ∷ 50 ∷ 32 ∷ 117 ∷ 116 ∷ 102 ∷ 49 ∷ 54 ∷ 32 ∷ 51 ∷ 32 ∷ 108 ∷ 105 ∷ 110 ∷ 101 ∷ 115 ∷ 32 ∷ 49 ∷ 10 ∷ []
+unfolding listing validUtf8 encode decode total unitWidth breaks movedTo
+wide = refl
 
 -- "bytes 0 chars 0 utf16 0 lines 1": the totals of an empty note
 abbrev none : List ℕ
