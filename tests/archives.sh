@@ -1,6 +1,7 @@
 #!/bin/sh
 # archives.sh NAME...   writes target/staticlib/libNAME.a of each crate, for a test to link: proved first, as `rt staticlib` does it.
 # UNPROVED=yes  compiles the sources with nothing proved, in seconds: for the gate, which proves the same sources next
+# COMPILER_DIR=FOLDER  with UNPROVED, the compiler if it is not the kit's (bench.sh)
 set -eu
 cd "$(dirname "$0")/.."
 mkdir -p target/staticlib
@@ -32,6 +33,6 @@ reached_by() {
 for name in "$@"; do
     set -- --lib "std=$kit/libs/std/src/lib.rt"
     for crate in $(reached_by "$name"); do set -- "$@" --lib "$crate=crates/$crate/src/lib.rt"; done
-    "$own/bin/rattle-cases" --toolchain "$own/toolchain" --staticlib "target/staticlib/lib$name.a" "crates/$name/src/lib.rt" --crate-name "$name" "$@"
+    "$own/bin/rattle-cases" --toolchain "${COMPILER_DIR:-$own/toolchain}" --staticlib "target/staticlib/lib$name.a" "crates/$name/src/lib.rt" --crate-name "$name" "$@"
     echo "compiled $name, with nothing proved"
 done

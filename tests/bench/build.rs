@@ -1,9 +1,12 @@
-//! Links libtext_c.a from the folder that TEXT_C_DIR names; the script sets it.
+//! Links libtext_c.a from the folder that TEXT_C_DIR names, and libunchecked.a from that of
+//! UNCHECKED_DIR; the script sets both.
 
 fn main() {
-    let folder = std::env::var("TEXT_C_DIR").expect("TEXT_C_DIR names the folder of libtext_c.a");
-    println!("cargo:rerun-if-env-changed=TEXT_C_DIR");
-    println!("cargo:rerun-if-changed={folder}/libtext_c.a");
-    println!("cargo:rustc-link-search=native={folder}");
-    println!("cargo:rustc-link-lib=static=text_c");
+    for (variable, library) in [("TEXT_C_DIR", "text_c"), ("UNCHECKED_DIR", "unchecked")] {
+        let folder = std::env::var(variable).expect("the script names the library's folder");
+        println!("cargo:rerun-if-env-changed={variable}");
+        println!("cargo:rerun-if-changed={folder}/lib{library}.a");
+        println!("cargo:rustc-link-search=native={folder}");
+        println!("cargo:rustc-link-lib=static={library}");
+    }
 }

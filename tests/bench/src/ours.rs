@@ -1,4 +1,15 @@
-//! The proved library. A slice passes as its pointer, then its length.
+//! The proved library. A slice passes as its pointer, then its length. An answer that is refused
+//! ends the program: none is asked for here.
+
+use notes::asks::Call;
+use notes::marks::{self, Marking};
+
+/// A part that is handed out, as it lies in memory.
+#[repr(C)]
+struct Slice {
+    at: *const u8,
+    len: usize,
+}
 
 extern "C" {
     fn wol_raw_count_chars(text: *const u8, len: usize) -> usize;
@@ -11,6 +22,25 @@ extern "C" {
         text: *const u8,
         len: usize,
         out: &mut u64,
+    ) -> u8;
+    fn wol_note_copy(
+        memory: *const u8,
+        len: usize,
+        start: usize,
+        end: usize,
+        out: *mut u8,
+        out_len: usize,
+        count: &mut u64,
+    ) -> u8;
+    fn wol_note_run(memory: *const u8, len: usize, place: usize, part: &mut Slice) -> u8;
+    fn wol_note_preview(
+        memory: *const u8,
+        len: usize,
+        piece: *const u8,
+        piece_len: usize,
+        place: usize,
+        from: usize,
+        part: &mut Slice,
     ) -> u8;
 }
 
@@ -44,4 +74,70 @@ fn ask(call: u8, text: &[u8]) -> Option<usize> {
     let mut value = 0;
     let refusal = unsafe { wol_ask(call, 0, false, text.as_ptr(), text.len(), &mut value) };
     (refusal == 0).then_some(value as usize)
+}
+
+// The calls of a note.
+pub fn open(memory: &mut [u8], n: usize) {
+    assert_eq!(notes::ours::open(memory, n), 0, "opening");
+}
+
+pub fn read(call: Call, memory: &[u8], index: usize) -> usize {
+    let (refusal, number) = notes::ours::read(call as u8, memory, index);
+    assert_eq!(refusal, 0, "{call:?} of {index}");
+    number as usize
+}
+
+pub fn mark(memory: &mut [u8], marking: Marking) -> usize {
+    let (refusal, number) = marks::mark(memory, marking);
+    assert_eq!(refusal, 0, "{marking:?}");
+    number as usize
+}
+
+/// Copies chars to the front of the output: how many bytes they are.
+pub fn copy(memory: &[u8], start: usize, end: usize, out: &mut [u8]) -> usize {
+    let (at, len) = (memory.as_ptr(), memory.len());
+    let (out, out_len) = (out.as_mut_ptr(), out.len());
+    let mut count = 0;
+    let refusal = unsafe { wol_note_copy(at, len, start, end, out, out_len, &mut count) };
+    assert_eq!(refusal, 0, "a copy of {start}..{end}");
+    count as usize
+}
+
+/// The first byte of the run from a place on, or 0 at the end.
+pub fn run(memory: &[u8], place: usize) -> usize {
+    let (at, len) = (memory.as_ptr(), memory.len());
+    let mut part = Slice { at, len: 0 };
+    let refusal = unsafe { wol_note_run(at, len, place, &mut part) };
+    assert_eq!(refusal, 0, "a run from {place}");
+    match part.len {
+        0 => 0,
+        // Sound: the part lies in the memory, as the call promises.
+        _ => usize::from(unsafe { *part.at }),
+    }
+}
+
+/// The length of the first part behind the place of an insertion: that of the piece.
+pub fn preview(memory: &[u8], piece: &[u8], place: usize) -> usize {
+    let (at, len) = (memory.as_ptr(), memory.len());
+    let mut part = Slice { at, len: 0 };
+    let refusal = unsafe {
+        wol_note_preview(
+            at,
+            len,
+            piece.as_ptr(),
+            piece.len(),
+            place,
+            place,
+            &mut part,
+        )
+    };
+    assert_eq!(refusal, 0, "a preview at {place}");
+    part.len
+}
+
+/// The whole text.
+pub fn text(memory: &[u8]) -> Vec<u8> {
+    let mut text = vec![0; read(Call::LenBytes, memory, 0)];
+    copy(memory, 0, read(Call::LenChars, memory, 0), &mut text);
+    text
 }
