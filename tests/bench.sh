@@ -60,7 +60,7 @@ sed -i '/^pub fn check(/,/^}/ { /^{/,/^}/ c\
 }
 }' "$bare/crates/memory/src/lib.rt"
 mkdir -p "$bare/crates/unchecked/src"
-cp tests/bench/rattle/unchecked.rt "$bare/crates/unchecked/src/lib.rt"
+cp tests/bench/rattle/unchecked.rt.txt "$bare/crates/unchecked/src/lib.rt"
 echo 'unchecked: answer line_change note_edits note' >>"$bare/crates.txt"
 UNPROVED=yes "$bare/tests/archives.sh" unchecked >&2
 

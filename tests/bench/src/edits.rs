@@ -26,7 +26,7 @@ extern "C" {
         change: &mut i64,
     ) -> u8;
 
-    // Of tests/bench/rattle/unchecked.rt.
+    // Of tests/bench/rattle/unchecked.rt.txt.
     fn wol_unchecked_insert(
         memory: *mut u8,
         len: usize,
