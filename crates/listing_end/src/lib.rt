@@ -1,5 +1,6 @@
 // The end of a listing, read from the lent memory: the totals, and a line for each live mark by number.
 use answer::Number;
+use listing_lines::has_room;
 use listing_lines::put_mark;
 use listing_lines::put_totals;
 ghost use mathlib.Core.Path.{_≡_};
@@ -12,8 +13,12 @@ ghost use Rattle.answer.specs.Answers.{number};
 ghost use Rattle.plain_calls.specs.Marks.{markOf};
 ghost use Rattle.memory.specs.Formed.{wellFormed, noteOf};
 ghost use Rattle.plain_journal.specs.Listing.{markRow, markRows, ending};
+ghost use Rattle.listing_end.specs.Ends.{Ends};
 
 const MARKS: usize = 256;
+
+// The totals take 110 bytes at most, and a mark 80.
+const ENDING: usize = 20590;
 
 // A number, or 0 where it is refused.
 fn value_of(answer: Number) -> u64
@@ -52,7 +57,7 @@ fn put_rows(m: &[u8], out: &mut [u8], at: usize) -> usize
 }
 
 // The totals, and the marks.
-pub fn put_ending(m: &[u8], out: &mut [u8], at: usize) -> usize
+fn whole_ending(m: &[u8], out: &mut [u8], at: usize) -> usize
     requires { ⌜ (wellFormed (now m) ≡ true) × (at + 20590 ≤ length (now out)) ⌝ }
     ensures { λ r. ⌜ (r ≤ at + 20590) × (take r (now (out .exit)) ≡ take at (now (out .entry)) ++ ending (noteOf (now (m .entry)))) ⌝ }
 {
@@ -62,4 +67,18 @@ pub fn put_ending(m: &[u8], out: &mut [u8], at: usize) -> usize
     let lines = value_of(note::len_lines(m));
     let a = put_totals(out, at, bytes, chars, units, lines);
     put_rows(m, out, a)
+}
+
+// The end of the listing of the note that the memory holds, put behind the first `at` bytes: nothing where the memory is not well formed, or the output has no
+// room for the longest end.
+pub fn put_ending(m: &[u8], out: &mut [u8], at: usize) -> usize
+    ensures { λ r. ⌜ Ends (now (m .entry)) at (now (out .entry)) r (now (out .exit)) ⌝ }
+{
+    if !note::check(m) {
+        return at;
+    }
+    if !has_room(out, at, ENDING) {
+        return at;
+    }
+    whole_ending(m, out, at)
 }

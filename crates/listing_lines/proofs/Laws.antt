@@ -1,15 +1,16 @@
--- What is put behind an output's first bytes; that the digits of `io::decimal` are those of `decimal`; and the lines by their pieces.
-use mathlib.Core.Path.{_≡_, refl, ap, _∙_}
-use mathlib.Core.Bool.{cond}
+-- What is put behind an output's first bytes; that the digits of `io::decimal` are those of `decimal`; the lines by their pieces; and what room makes of it.
+use mathlib.Core.Path.{_≡_, refl, sym, ap, _∙_}
+use mathlib.Core.Bool.{Bool, true, false, cond}
 use mathlib.Core.List.{List, _++_, append-assoc}
 use Prim.Native.Nat.{ℕ, zero, suc, _+_, _-_, _*_, _/_, _%_, _^_, _≤_, _<_}
 use native.Mathlib.Omega.{arith}
 use native.Mathlib.Nat.{not-suc-le-zero, le-of-suc-le-suc, pow-succ', one-le-pow, pow-le-pow-right}
-use borrow.Author.Tests.{lt-ltb, le-ltb}
-use lib.Dec.{eqb}
+use borrow.Author.Tests.{lt-ltb, le-ltb, le-leb, lt-leb, leb-true, leb-false}
+use lib.Dec.{eqb, leb}
 use lib.ListN.{length, take, length-append}
 use lib.Seq.{length-take-le, take-at, take-length}
 use Rattle.io.specs.Digits.{digits, Fewest}
+use Rattle.listing_lines.specs.Puts.{Puts}
 use Rattle.plain_journal.specs.Listing.{decimalBy, decimal, lineEnd, okText, refusedText, bytesText, charsText, unitsText, linesText, markText, placeText, lineText, fieldLine, totalsLine, markLine}
 
 -- ── pieces ──
@@ -69,3 +70,23 @@ totals-is b c u l = refl
 pub mark-is : (k p l : ℕ) → markLine k p l ≡ (markText ++ decimal k) ++ ((placeText ++ decimal p) ++ ((lineText ++ decimal l) ++ lineEnd))
 unfolding markLine
 mark-is k p l = refl
+
+-- ── room ──
+
+-- two comparisons that say the same
+pub leb-leb : (a b c d : ℕ) → (a ≤ b → c ≤ d) → (c ≤ d → a ≤ b) → leb a b ≡ leb c d
+leb-leb a b c d f g = go (leb a b) refl
+  where
+    go : (t : Bool) → leb a b ≡ t → leb a b ≡ leb c d
+    go true e = e ∙ sym (le-leb c d (f (leb-true a b e)))
+    go false e =
+        let less : b < a = leb-false a b e in
+        let no : c ≤ d → ⊥ = λ h. (let z : a ≤ b = g h in omega arith) in
+        e ∙ sym (lt-leb c d (omega (arith, no)))
+
+module _ (room at : ℕ) (line o : List ℕ) where
+  pub no-room : leb (at + room) (length o) ≡ false → Puts room at line o at o
+  no-room e = (λ h. absurd (omega (arith, leb-false (at + room) (length o) e)), λ h. (refl, refl))
+
+  pub with-room : (r : ℕ) (o′ : List ℕ) → leb (at + room) (length o) ≡ true → (r ≤ at + room) × (take r o′ ≡ take at o ++ line) → Puts room at line o r o′
+  with-room r o′ e w = (λ h. w, λ h. absurd (omega (arith, leb-true (at + room) (length o) e)))

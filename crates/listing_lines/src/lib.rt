@@ -1,10 +1,11 @@
-// The lines of a listing, written behind what an output already holds.
+// The lines of a listing, put behind what an output already holds. Where it has no room for the longest line of its kind, nothing is put.
 ghost use mathlib.Core.Path.{_≡_};
 ghost use mathlib.Core.Bool.{cond};
 ghost use mathlib.Core.List.{_++_};
 ghost use Prim.Native.Nat.{_+_, _≤_};
-ghost use lib.Dec.{eqb};
+ghost use lib.Dec.{eqb, leb};
 ghost use lib.ListN.{length, take};
+ghost use Rattle.listing_lines.specs.Puts.{Puts};
 ghost use Rattle.plain_journal.specs.Listing.{decimal, okText, refusedText, fieldLine, totalsLine, markLine};
 
 // Puts piece behind the first `at` bytes of out.
@@ -46,8 +47,8 @@ fn put_code(out: &mut [u8], at: usize, code: u8) -> usize
     put_counted(out, at, b" refused ", code as u64)
 }
 
-// Puts the line of field k there: "K ok" or "K refused NUMBER".
-pub fn put_field(out: &mut [u8], at: usize, k: u64, code: u8) -> usize
+// The line of field k: "K ok" or "K refused NUMBER".
+fn field_line(out: &mut [u8], at: usize, k: u64, code: u8) -> usize
     requires { ⌜ at + 50 ≤ length (now out) ⌝ }
     ensures { λ r. ⌜ (r ≤ at + 50) × (take r (now (out .exit)) ≡ take at (now (out .entry)) ++ fieldLine k code) ⌝ }
 {
@@ -56,15 +57,8 @@ pub fn put_field(out: &mut [u8], at: usize, k: u64, code: u8) -> usize
     put(out, b, b"\n")
 }
 
-// Puts the totals there: "bytes B chars C utf16 U lines L".
-pub fn put_totals(
-    out: &mut [u8],
-    at: usize,
-    bytes: u64,
-    chars: u64,
-    utf16: u64,
-    lines: u64,
-) -> usize
+// The totals: "bytes B chars C utf16 U lines L".
+fn totals_line(out: &mut [u8], at: usize, bytes: u64, chars: u64, utf16: u64, lines: u64) -> usize
     requires { ⌜ at + 110 ≤ length (now out) ⌝ }
     ensures { λ r. ⌜ (r ≤ at + 110) × (take r (now (out .exit)) ≡ take at (now (out .entry)) ++ totalsLine bytes chars utf16 lines) ⌝ }
 {
@@ -75,8 +69,8 @@ pub fn put_totals(
     put(out, d, b"\n")
 }
 
-// Puts the line of mark k there: "mark K place P line L".
-pub fn put_mark(out: &mut [u8], at: usize, k: u64, place: u64, line: u64) -> usize
+// The line of mark k: "mark K place P line L".
+fn mark_line(out: &mut [u8], at: usize, k: u64, place: u64, line: u64) -> usize
     requires { ⌜ at + 80 ≤ length (now out) ⌝ }
     ensures { λ r. ⌜ (r ≤ at + 80) × (take r (now (out .exit)) ≡ take at (now (out .entry)) ++ markLine k place line) ⌝ }
 {
@@ -84,4 +78,50 @@ pub fn put_mark(out: &mut [u8], at: usize, k: u64, place: u64, line: u64) -> usi
     let b = put_counted(out, a, b" place ", place);
     let c = put_counted(out, b, b" line ", line);
     put(out, c, b"\n")
+}
+
+// ── each put behind the first `at` bytes, where it has room ──
+
+// Whether n bytes are free behind the first `at`.
+pub fn has_room(out: &[u8], at: usize, n: usize) -> bool
+    ensures { λ r. ⌜ r ≡ leb (at + n) (length (now (out .entry))) ⌝ }
+{
+    if out.len() < n {
+        return false;
+    }
+    at <= out.len() - n
+}
+
+pub fn put_field(out: &mut [u8], at: usize, k: u64, code: u8) -> usize
+    ensures { λ r. ⌜ Puts 50 at (fieldLine k code) (now (out .entry)) r (now (out .exit)) ⌝ }
+{
+    if !has_room(out, at, 50) {
+        return at;
+    }
+    field_line(out, at, k, code)
+}
+
+pub fn put_totals(
+    out: &mut [u8],
+    at: usize,
+    bytes: u64,
+    chars: u64,
+    utf16: u64,
+    lines: u64,
+) -> usize
+    ensures { λ r. ⌜ Puts 110 at (totalsLine bytes chars utf16 lines) (now (out .entry)) r (now (out .exit)) ⌝ }
+{
+    if !has_room(out, at, 110) {
+        return at;
+    }
+    totals_line(out, at, bytes, chars, utf16, lines)
+}
+
+pub fn put_mark(out: &mut [u8], at: usize, k: u64, place: u64, line: u64) -> usize
+    ensures { λ r. ⌜ Puts 80 at (markLine k place line) (now (out .entry)) r (now (out .exit)) ⌝ }
+{
+    if !has_room(out, at, 80) {
+        return at;
+    }
+    mark_line(out, at, k, place, line)
 }

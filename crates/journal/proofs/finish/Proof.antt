@@ -1,8 +1,8 @@
-use mathlib.Core.Path.{sym, ap, _∙_}
+use mathlib.Core.Path.{_≡_, sym, ap, _∙_}
 use mathlib.Core.List.{List, _++_, append-assoc}
-use Prim.Native.Nat.{ℕ}
+use Prim.Native.Nat.{ℕ, _+_, _≤_}
 use native.Mathlib.Omega.{arith}
-use lib.ListN.{take}
+use lib.ListN.{length, take}
 use Rattle.memory.specs.Formed.{noteOf}
 use Rattle.plain_journal.specs.Listing.{fieldLine, ending}
 use Rattle.plain_journal.proofs.Listed.{ends, ends-cut}
@@ -26,8 +26,9 @@ same-length c = search needs
 returns : tie.Need-returns
 returns c =
     let a = c .before .before .before .before .before .before .before .before .args in
-    let p = c .before .before .put-ending in
-    (omega (arith, p .ensures .0), p .ensures .1 ∙ ap (λ (l : List ℕ). take (a .put) (a .out .now) ++ l) (sym (ends (noteOf (a .m .now)) (a .k) (a .rest .now) (c .before .before .before .before .if1 .taken))))
+    let room : a .put + 20590 ≤ length (a .out .now) = omega (arith, c .before .before .before .before .before .before .before .before .pre .1) in
+    let p = c .before .before .put-ending .ensures .0 (c .before .before .before .before .before .before .before .before .pre .0) .0 room in
+    (omega (arith, p .0), p .1 ∙ ap (λ (l : List ℕ). take (a .put) (a .out .now) ++ l) (sym (ends (noteOf (a .m .now)) (a .k) (a .rest .now) (c .before .before .before .before .if1 .taken))))
 
 -- src/lib.rt:78:9
 put-field-requires : tie.Need-put-field-requires
@@ -46,10 +47,14 @@ returns-2 : tie.Need-returns-2
 returns-2 c =
     let a = c .before .before .before .before .before .before .before .before .before .before .before .before .args in
     let o = take (a .put) (a .out .now) in
-    let p = c .before .before .put-ending2 in
-    let q = c .before .before .before .before .before .before .put-field in (
-      omega (arith, p .ensures .0, q .ensures .0),
-      p .ensures .1 ∙ ap (λ (l : List ℕ). l ++ ending (noteOf (a .m .now))) (q .ensures .1) ∙ append-assoc o (fieldLine (a .k) 10) (ending (noteOf (a .m .now)))
+    let f = c .before .before .before .before .before .before .put-field in
+    let same : length (f .last .0) ≡ length (a .out .now) = f .kept .0 in
+    let first : a .put + 50 ≤ length (a .out .now) = omega (arith, c .before .before .before .before .before .before .before .before .before .before .before .before .pre .1) in
+    let q = f .ensures .0 first in
+    let room : f .result + 20590 ≤ length (f .last .0) = omega (arith, c .before .before .before .before .before .before .before .before .before .before .before .before .pre .1, q .0) in
+    let p = c .before .before .put-ending2 .ensures .0 (c .before .before .before .before .before .before .before .before .before .before .before .before .pre .0) .0 room in (
+      omega (arith, p .0, q .0),
+      p .1 ∙ ap (λ (l : List ℕ). l ++ ending (noteOf (a .m .now))) (q .1) ∙ append-assoc o (fieldLine (a .k) 10) (ending (noteOf (a .m .now)))
           ∙ ap (λ (l : List ℕ). o ++ l) (sym (ends-cut (noteOf (a .m .now)) (a .k) (a .rest .now) (c .before .before .before .before .before .before .before .before .if1 .left) (c .before .before .before .before .before .before .before .before .before .before .before .before .pre .2))),
     )
 

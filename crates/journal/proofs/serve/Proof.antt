@@ -1,3 +1,4 @@
+use Prim.Native.Nat.{_+_, _≤_}
 use mathlib.Core.Path.{_≡_}
 use native.Mathlib.Omega.{arith}
 use lib.ListN.{length}
@@ -34,7 +35,8 @@ returns c =
     let f = c .before .before .before .before .before .before .before .before .before .before .whole-fields in
     let ol : length (f .last .1 .1 .1 .0) ≡ length (a .out .now) = f .kept .1 .1 .1 .0 in
     let p = c .before .before .put-ending in
-    served-ended (a .m .now) (f .last .0) (a .buf .now) (a .out .now) (f .last .1 .1 .1 .0) (a .k) (a .last) (f .result) (f .ensures) (p .last .1 .0) (p .result) (c .before .before .before .before .before .if1 .taken) (p .ensures)
+    let room : f .result .put + 20590 ≤ length (f .last .1 .1 .1 .0) = omega (arith, f .ensures .room) in
+    served-ended (a .m .now) (f .last .0) (a .buf .now) (a .out .now) (f .last .1 .1 .1 .0) (a .k) (a .last) (f .result) (f .ensures) (p .last .1 .0) (p .result) (c .before .before .before .before .before .if1 .taken) (p .ensures .0 (f .ensures .formed) .0 room)
 
 -- src/lib.rt:102:17
 finish-requires : tie.Need-finish-requires

@@ -1,106 +1,70 @@
-use Rattle.listing_end.proofs.Laws.{told, end-is}
+use mathlib.Core.Path.{_≡_, refl, sym, _∙_}
+use mathlib.Core.Bool.{false≢true}
+use Prim.Native.Nat.{_+_}
+use borrow.Author.Tests.{not-true, not-false, leb-true}
+use lib.ListN.{length}
 use Rattle.memory.specs.Formed.{noteOf}
-use Rattle.answer.specs.Answers.{number}
-use Rattle.plain.specs.Count.{lines}
-use Rattle.plain.specs.Place.{bytes, units}
-use lib.ListN.{length, take}
-use native.Mathlib.Omega.{arith}
-use mathlib.Core.Path.{_∙_}
+use Rattle.plain_journal.specs.Listing.{ending}
+use Rattle.listing_lines.proofs.Laws.{no-room, with-room}
 use borrow.Author.Needs.{needs}
 use Rattle.listing_end.proofs.put_ending.Statement.{statement}
 use Rattle.listing_end.proofs.put_ending.Tie as tie
 use Rattle.listing_end.proofs.put_ending.Reads as reads
 use Rattle.listing_end.proofs.put_ending.Lts as lts
-use Rattle.listing_end.proofs.put_rows.Reads as put-rows-reads
-use Rattle.listing_end.proofs.value_of.Reads as value-of-reads
-use Rattle.listing_lines.proofs.put_totals.Reads as put-totals-reads
-use Rattle.note.proofs.len_bytes.Reads as len-bytes-reads
-use Rattle.note.proofs.len_chars.Reads as len-chars-reads
-use Rattle.note.proofs.len_lines.Reads as len-lines-reads
-use Rattle.note.proofs.len_utf16_cu.Reads as len-utf16-cu-reads
+use Rattle.listing_end.proofs.whole_ending.Reads as whole-ending-reads
+use Rattle.listing_lines.proofs.has_room.Reads as has-room-reads
+use Rattle.memory.proofs.check.Reads as check-reads
 
--- src/lib.rt:59:26
-len-bytes-requires : tie.Need-len-bytes-requires
-len-bytes-requires c κs = search needs
+-- src/lib.rt:77:9
+check-requires : tie.Need-check-requires
+check-requires c κs = search needs
 
--- src/lib.rt:59:9
-value-of-requires : tie.Need-value-of-requires
-value-of-requires c κs = search needs
+-- src/lib.rt:78:9
+returns : tie.Need-returns
+returns c = (λ ok. absurd (false≢true (sym (sym (c .before .check .ensures) ∙ not-true _ (c .if1 .taken)) ∙ ok)), λ w. (refl, refl))
 
--- src/lib.rt:60:26
-len-chars-requires : tie.Need-len-chars-requires
-len-chars-requires c κs = search needs
+-- src/lib.rt:80:9
+has-room-requires : tie.Need-has-room-requires
+has-room-requires c κs = search needs
 
--- src/lib.rt:60:9
-value-of-requires-2 : tie.Need-value-of-requires-2
-value-of-requires-2 c κs = search needs
-
--- src/lib.rt:61:26
-len-utf16-cu-requires : tie.Need-len-utf16-cu-requires
-len-utf16-cu-requires c κs = search needs
-
--- src/lib.rt:61:9
-value-of-requires-3 : tie.Need-value-of-requires-3
-value-of-requires-3 c κs = search needs
-
--- src/lib.rt:62:26
-len-lines-requires : tie.Need-len-lines-requires
-len-lines-requires c κs = search needs
-
--- src/lib.rt:62:9
-value-of-requires-4 : tie.Need-value-of-requires-4
-value-of-requires-4 c κs = search needs
-
--- src/lib.rt:63:9
-put-totals-requires : tie.Need-put-totals-requires
-put-totals-requires c κs = search needs
-
--- src/lib.rt:64:5
-put-rows-requires : tie.Need-put-rows-requires
-put-rows-requires c κs = search needs
-
--- src/lib.rt:55:1
+-- src/lib.rt:81:9
 same-length : tie.Need-same-length
 same-length c = search needs
 
--- src/lib.rt:55:1
-returns : tie.Need-returns
-returns c =
-    let a = c .before .before .before .before .before .before .before .before .before .before .before .before .before .before .before .before .before .before .args in
-    let m = a .m .now in
-    let ok = c .before .before .before .before .before .before .before .before .before .before .before .before .before .before .before .before .before .before .pre .0 in
-    let v1 = c .before .before .before .before .before .before .before .before .before .before .before .before .before .before .value-of in
-    let l1 = c .before .before .before .before .before .before .before .before .before .before .before .before .before .before .before .len-bytes in
-    let v2 = c .before .before .before .before .before .before .before .before .before .before .before .before .value-of2 in
-    let l2 = c .before .before .before .before .before .before .before .before .before .before .before .before .before .len-chars in
-    let v3 = c .before .before .before .before .before .before .before .before .before .before .value-of3 in
-    let l3 = c .before .before .before .before .before .before .before .before .before .before .before .len-utf16-cu in
-    let v4 = c .before .before .before .before .before .before .before .before .value-of4 in
-    let l4 = c .before .before .before .before .before .before .before .before .before .len-lines in
-    let t = c .before .before .before .before .before .before .put-totals in
-    let r = c .before .before .put-rows in (
-      omega (arith, r .ensures .0, t .ensures .0),
-      end-is (noteOf m) (take (a .at) (a .out .now)) (take (t .result) (t .last .0)) (take (r .result) (r .last .1 .0)) (v1 .result) (v2 .result) (v3 .result) (v4 .result)
-          (v1 .ensures ∙ told m ok (λ N. bytes (N .text)) (number (l1 .result)) (l1 .ensures))
-          (v2 .ensures ∙ told m ok (λ N. length (N .text)) (number (l2 .result)) (l2 .ensures))
-          (v3 .ensures ∙ told m ok (λ N. units (N .text)) (number (l3 .result)) (l3 .ensures))
-          (v4 .ensures ∙ told m ok (λ N. lines (N .text)) (number (l4 .result)) (l4 .ensures))
-          (t .ensures .1) (r .ensures .1),
-    )
+-- src/lib.rt:81:9
+returns-2 : tie.Need-returns-2
+returns-2 c =
+    let a = c .before .before .before .before .before .before .before .args in
+    let ok = sym (c .before .before .before .before .check .ensures) ∙ not-false _ (c .before .before .before .if1 .left) in
+    (λ z. no-room 20590 (a .at) (ending (noteOf (a .m .now))) (a .out .now) (sym (c .before .has-room .ensures) ∙ not-true _ (c .if2 .taken)), λ w. absurd (false≢true (sym w ∙ ok)))
+
+-- src/lib.rt:83:5
+whole-ending-requires : tie.Need-whole-ending-requires
+whole-ending-requires c κs =
+    let a = c .before .before .before .before .before .before .before .before .args in
+    (sym (c .before .before .before .before .before .check .ensures) ∙ not-false _ (c .before .before .before .before .if1 .left), leb-true (a .at + 20590) (length (a .out .now)) (sym (c .before .before .has-room .ensures) ∙ not-false _ (c .before .if2 .left)))
+
+-- src/lib.rt:74:1
+same-length-2 : tie.Need-same-length-2
+same-length-2 c = search needs
+
+-- src/lib.rt:74:1
+returns-3 : tie.Need-returns-3
+returns-3 c =
+    let a = c .before .before .before .before .before .before .before .before .before .before .before .args in
+    let ok = sym (c .before .before .before .before .before .before .before .before .check .ensures) ∙ not-false _ (c .before .before .before .before .before .before .before .if1 .left) in
+    let w = c .before .before .whole-ending in
+    (λ z. with-room 20590 (a .at) (ending (noteOf (a .m .now))) (a .out .now) (w .result) (w .last .1 .0) (sym (c .before .before .before .before .before .has-room .ensures) ∙ not-false _ (c .before .before .before .before .if2 .left)) (w .ensures), λ z. absurd (false≢true (sym z ∙ ok)))
 
 pub put-ending-spec : {M : Type 1} → statement M
 put-ending-spec =
     tie.close
     (tie.spec
-    len-bytes-requires
-    value-of-requires
-    len-chars-requires
-    value-of-requires-2
-    len-utf16-cu-requires
-    value-of-requires-3
-    len-lines-requires
-    value-of-requires-4
-    put-totals-requires
-    put-rows-requires
+    check-requires
+    returns
+    has-room-requires
     same-length
-    returns)
+    returns-2
+    whole-ending-requires
+    same-length-2
+    returns-3)

@@ -56,10 +56,11 @@ returns-2 : tie.Need-returns-2
 returns-2 c =
     let a = c .before .before .before .before .before .before .before .before .before .before .before .before .args in
     let put = c .before .before .put-mark in
+    let v = put .ensures .0 (omega arith) in
     let line = c .before .before .before .before .before .mark-line in
     let t = c .before .before .before .before .before .before .before .place .given in (
-      put .ensures .0,
-      put .ensures .1
+      v .0,
+      v .1
           ∙ ap (λ (l : List ℕ). take (a .at) (a .out .now) ++ l)
           (ap (markLine (a .k) (t .0 .0)) (c .before .before .before .value-of .ensures)
           ∙ row-live (a .m .now) (c .before .before .before .before .before .before .before .before .before .before .before .before .pre .0) (a .k) (t .0 .0) (number (line .result)) (sym (ap number (t .1)) ∙ c .before .before .before .before .before .before .before .before .before .mark-place .ensures) (line .ensures)),

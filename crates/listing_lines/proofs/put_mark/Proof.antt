@@ -1,62 +1,49 @@
--- `listing_lines::put_mark` meets its contract: its four pieces.
-use mathlib.Core.List.{_++_}
+use mathlib.Core.Path.{_≡_, sym, _∙_}
+use Prim.Native.Nat.{_+_}
+use borrow.Author.Tests.{not-true, not-false, leb-true}
+use lib.ListN.{length}
+use Rattle.plain_journal.specs.Listing.{markLine}
+use Rattle.listing_lines.proofs.Laws.{no-room, with-room}
 use borrow.Author.Needs.{needs}
-use lib.ListN.{take}
-use Rattle.plain_journal.specs.Listing.{markText, placeText, lineText, lineEnd, decimal}
-use Rattle.listing_lines.proofs.Laws.{then-is, mark-is}
 use Rattle.listing_lines.proofs.put_mark.Statement.{statement}
 use Rattle.listing_lines.proofs.put_mark.Tie as tie
+use Rattle.listing_lines.proofs.put_mark.Reads as reads
+use Rattle.listing_lines.proofs.put_mark.Lts as lts
+use Rattle.listing_lines.proofs.has_room.Reads as has-room-reads
+use Rattle.listing_lines.proofs.mark_line.Reads as mark-line-reads
 
-slice-aggregate-put-counted : tie.Need-slice-aggregate-put-counted
-slice-aggregate-put-counted c = search needs
+-- src/lib.rt:130:9
+has-room-requires : tie.Need-has-room-requires
+has-room-requires c κs = search needs
 
-put-counted-requires : tie.Need-put-counted-requires
-put-counted-requires c κs = search needs
-
-slice-aggregate-put-counted-2 : tie.Need-slice-aggregate-put-counted-2
-slice-aggregate-put-counted-2 c = search needs
-
-put-counted-requires-2 : tie.Need-put-counted-requires-2
-put-counted-requires-2 c κs = search needs
-
-slice-aggregate-put-counted-3 : tie.Need-slice-aggregate-put-counted-3
-slice-aggregate-put-counted-3 c = search needs
-
-put-counted-requires-3 : tie.Need-put-counted-requires-3
-put-counted-requires-3 c κs = search needs
-
-slice-aggregate-put : tie.Need-slice-aggregate-put
-slice-aggregate-put c = search needs
-
-put-requires : tie.Need-put-requires
-put-requires c κs = search needs
-
+-- src/lib.rt:131:9
 same-length : tie.Need-same-length
 same-length c = search needs
 
+-- src/lib.rt:131:9
 returns : tie.Need-returns
 returns c =
-    let a = c .before .before .before .before .before .before .before .before .before .before .before .before .before .before .before .before .before .before .before .before .before .args in
-    let p = c .before .before .before .before .before .before .before .before .before .before .before .before .before .before .before .before .before .put-counted in
-    let q = c .before .before .before .before .before .before .before .before .before .before .before .before .put-counted2 in
-    let s = c .before .before .before .before .before .before .before .put-counted3 in
-    let h = placeText ++ decimal (a .place) in
-    let l = lineText ++ decimal (a .line) in
-    let e3 = then-is (take (q .result) (q .last .0)) l lineEnd (s .ensures .1) (c .before .before .put .ensures .1) in
-    let e2 = then-is (take (p .result) (p .last .0)) h (l ++ lineEnd) (q .ensures .1) e3 in
-    (search needs, rw mark-is (then-is (take (a .at) (a .out .now)) (markText ++ decimal (a .k)) (h ++ (l ++ lineEnd)) (p .ensures .1) e2))
+    let a = c .before .before .before .before .args in
+    no-room 80 (a .at) (markLine (a .k) (a .place) (a .line)) (a .out .now) (sym (c .before .has-room .ensures) ∙ not-true _ (c .if1 .taken))
+
+-- src/lib.rt:133:5
+mark-line-requires : tie.Need-mark-line-requires
+mark-line-requires c κs =
+    let a = c .before .before .before .before .before .args in
+    leb-true (a .at + 80) (length (a .out .now)) (sym (c .before .before .has-room .ensures) ∙ not-false _ (c .before .if1 .left))
+
+-- src/lib.rt:127:1
+same-length-2 : tie.Need-same-length-2
+same-length-2 c = search needs
+
+-- src/lib.rt:127:1
+returns-2 : tie.Need-returns-2
+returns-2 c =
+    let a = c .before .before .before .before .before .before .before .before .args in
+    let w = c .before .before .mark-line in
+    with-room 80 (a .at) (markLine (a .k) (a .place) (a .line)) (a .out .now) (w .result) (w .last .0) (sym (c .before .before .before .before .before .has-room .ensures) ∙ not-false _ (c .before .before .before .before .if1 .left)) (w .ensures)
 
 pub put-mark-spec : {M : Type 1} → statement M
 put-mark-spec =
     tie.close
-    (tie.spec
-    slice-aggregate-put-counted
-    put-counted-requires
-    slice-aggregate-put-counted-2
-    put-counted-requires-2
-    slice-aggregate-put-counted-3
-    put-counted-requires-3
-    slice-aggregate-put
-    put-requires
-    same-length
-    returns)
+    (tie.spec has-room-requires same-length returns mark-line-requires same-length-2 returns-2)

@@ -1,74 +1,49 @@
--- `listing_lines::put_totals` meets its contract: its five pieces.
-use mathlib.Core.List.{_++_}
+use mathlib.Core.Path.{_≡_, sym, _∙_}
+use Prim.Native.Nat.{_+_}
+use borrow.Author.Tests.{not-true, not-false, leb-true}
+use lib.ListN.{length}
+use Rattle.plain_journal.specs.Listing.{totalsLine}
+use Rattle.listing_lines.proofs.Laws.{no-room, with-room}
 use borrow.Author.Needs.{needs}
-use lib.ListN.{take}
-use Rattle.plain_journal.specs.Listing.{bytesText, charsText, unitsText, linesText, lineEnd, decimal}
-use Rattle.listing_lines.proofs.Laws.{then-is, totals-is}
 use Rattle.listing_lines.proofs.put_totals.Statement.{statement}
 use Rattle.listing_lines.proofs.put_totals.Tie as tie
+use Rattle.listing_lines.proofs.put_totals.Reads as reads
+use Rattle.listing_lines.proofs.put_totals.Lts as lts
+use Rattle.listing_lines.proofs.has_room.Reads as has-room-reads
+use Rattle.listing_lines.proofs.totals_line.Reads as totals-line-reads
 
-slice-aggregate-put-counted : tie.Need-slice-aggregate-put-counted
-slice-aggregate-put-counted c = search needs
+-- src/lib.rt:121:9
+has-room-requires : tie.Need-has-room-requires
+has-room-requires c κs = search needs
 
-put-counted-requires : tie.Need-put-counted-requires
-put-counted-requires c κs = search needs
-
-slice-aggregate-put-counted-2 : tie.Need-slice-aggregate-put-counted-2
-slice-aggregate-put-counted-2 c = search needs
-
-put-counted-requires-2 : tie.Need-put-counted-requires-2
-put-counted-requires-2 c κs = search needs
-
-slice-aggregate-put-counted-3 : tie.Need-slice-aggregate-put-counted-3
-slice-aggregate-put-counted-3 c = search needs
-
-put-counted-requires-3 : tie.Need-put-counted-requires-3
-put-counted-requires-3 c κs = search needs
-
-slice-aggregate-put-counted-4 : tie.Need-slice-aggregate-put-counted-4
-slice-aggregate-put-counted-4 c = search needs
-
-put-counted-requires-4 : tie.Need-put-counted-requires-4
-put-counted-requires-4 c κs = search needs
-
-slice-aggregate-put : tie.Need-slice-aggregate-put
-slice-aggregate-put c = search needs
-
-put-requires : tie.Need-put-requires
-put-requires c κs = search needs
-
+-- src/lib.rt:122:9
 same-length : tie.Need-same-length
 same-length c = search needs
 
+-- src/lib.rt:122:9
 returns : tie.Need-returns
 returns c =
-    let a = c .before .before .before .before .before .before .before .before .before .before .before .before .before .before .before .before .before .before .before .before .before .before .before .before .before .before .args in
-    let p = c .before .before .before .before .before .before .before .before .before .before .before .before .before .before .before .before .before .before .before .before .before .before .put-counted in
-    let q = c .before .before .before .before .before .before .before .before .before .before .before .before .before .before .before .before .before .put-counted2 in
-    let s = c .before .before .before .before .before .before .before .before .before .before .before .before .put-counted3 in
-    let t = c .before .before .before .before .before .before .before .put-counted4 in
-    let b = bytesText ++ decimal (a .bytes) in
-    let h = charsText ++ decimal (a .chars) in
-    let u = unitsText ++ decimal (a .utf16) in
-    let l = linesText ++ decimal (a .lines) in
-    let e4 = then-is (take (s .result) (s .last .0)) l lineEnd (t .ensures .1) (c .before .before .put .ensures .1) in
-    let e3 = then-is (take (q .result) (q .last .0)) u (l ++ lineEnd) (s .ensures .1) e4 in
-    let e2 = then-is (take (p .result) (p .last .0)) h (u ++ (l ++ lineEnd)) (q .ensures .1) e3 in
-    (search needs, rw totals-is (then-is (take (a .at) (a .out .now)) b (h ++ (u ++ (l ++ lineEnd))) (p .ensures .1) e2))
+    let a = c .before .before .before .before .args in
+    no-room 110 (a .at) (totalsLine (a .bytes) (a .chars) (a .utf16) (a .lines)) (a .out .now) (sym (c .before .has-room .ensures) ∙ not-true _ (c .if1 .taken))
+
+-- src/lib.rt:124:5
+totals-line-requires : tie.Need-totals-line-requires
+totals-line-requires c κs =
+    let a = c .before .before .before .before .before .args in
+    leb-true (a .at + 110) (length (a .out .now)) (sym (c .before .before .has-room .ensures) ∙ not-false _ (c .before .if1 .left))
+
+-- src/lib.rt:111:1
+same-length-2 : tie.Need-same-length-2
+same-length-2 c = search needs
+
+-- src/lib.rt:111:1
+returns-2 : tie.Need-returns-2
+returns-2 c =
+    let a = c .before .before .before .before .before .before .before .before .args in
+    let w = c .before .before .totals-line in
+    with-room 110 (a .at) (totalsLine (a .bytes) (a .chars) (a .utf16) (a .lines)) (a .out .now) (w .result) (w .last .0) (sym (c .before .before .before .before .before .has-room .ensures) ∙ not-false _ (c .before .before .before .before .if1 .left)) (w .ensures)
 
 pub put-totals-spec : {M : Type 1} → statement M
 put-totals-spec =
     tie.close
-    (tie.spec
-    slice-aggregate-put-counted
-    put-counted-requires
-    slice-aggregate-put-counted-2
-    put-counted-requires-2
-    slice-aggregate-put-counted-3
-    put-counted-requires-3
-    slice-aggregate-put-counted-4
-    put-counted-requires-4
-    slice-aggregate-put
-    put-requires
-    same-length
-    returns)
+    (tie.spec has-room-requires same-length returns totals-line-requires same-length-2 returns-2)
