@@ -3,9 +3,9 @@ use answer::Number;
 use answer::Refusal;
 use node_children::MAX_LEN;
 use node_children::NodeChildren;
-use pool::Entry;
-use pool::kid_of;
+use pool::info_of;
 use pool::region_start;
+use text_info::Info;
 use text_info::TextInfo;
 use text_info::TextSum;
 ghost use mathlib.Core.Path.{_≡_};
@@ -143,7 +143,7 @@ fn info_at(m: &[u8], slot: usize, i: usize) -> TextInfo
     requires { ⌜ (outside (now m) slot ≡ false) × (i < 16) ⌝ }
     ensures { λ r. ⌜ r ≡ getD (entries (regionOf (now (m .entry)) slot)) i noKid .info ⌝ }
 {
-    let Entry::Is(kid) = kid_of(m, slot, i) else {
+    let Info::Is(info) = info_of(m, slot, i) else {
         return TextInfo {
             bytes: 0,
             chars: 0,
@@ -151,7 +151,7 @@ fn info_at(m: &[u8], slot: usize, i: usize) -> TextInfo
             line_breaks: 0,
         };
     };
-    kid.info
+    info
 }
 
 // A search among the first n entries of a slot. It reads none behind the child at which it stops: what it stops at is not past the end.

@@ -3,6 +3,7 @@ pub mod Stored
 pub mod Totals
 pub mod Laid
 pub mod Family
+pub mod Exchanged
 pub mod One
 pub mod Laws
 pub mod Puts

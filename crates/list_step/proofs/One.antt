@@ -7,7 +7,7 @@ use native.Mathlib.Omega.{arith}
 use native.Mathlib.Numerals.{add-one}
 use lib.Dec.{leb}
 use lib.ListN.{length, take, drop, getD, set}
-use lib.Seq.{getD-take, getD-set-same, getD-set-other, set-split}
+use lib.Seq.{getD-take, getD-set-same, set-split}
 use borrow.Author.Tests.{le-leb, lt-leb, lt-ltb, le-ltb}
 use Rattle.plain.specs.Outcome.{Outcome.value, Outcome.refused, ruled}
 use Rattle.plain.proofs.Outcome.{rule-applies, rule-passed, one-applies, one-passed, accepted, all-accepted}
@@ -20,11 +20,9 @@ use Rattle.text_info.specs.declared.Info.{Info}
 use Rattle.text_info.specs.declared.Info.the-variants as Info·case
 use Rattle.text_info.specs.Info.{info, zeros, Summed}
 use Rattle.pool.specs.declared.Kid.{Kid}
-use Rattle.pool.specs.declared.Entry.{Entry}
-use Rattle.pool.specs.declared.Entry.the-variants as Entry·case
 use Rattle.pool.specs.Slot.{lenOf, regionOf, entries, noKid, Fits, kidPut}
-use Rattle.pool.specs.Calls.{entry, kidOf, kidSet, Wrote}
-use Rattle.pool.proofs.Opened.{entry-opened, entry-there}
+use Rattle.pool.specs.Calls.{infoOf, infoSet, Wrote}
+use Rattle.pool.proofs.Opened.{info-opened, info-there}
 use Rattle.child_search.specs.Sought.{sumFrom, Within, Plus}
 use Rattle.child_search.proofs.Sums.{plus-exact, within-plus, within-more, within-none, sum-turn, sum-end}
 use Rattle.nodes.specs.Node.{isList, childrenOf, tooWide, narrowed, totalOf}
@@ -38,6 +36,33 @@ use Rattle.list_step.specs.Steps.{recount, onePut}
 use Rattle.list_step.proofs.Rules.{step-done, step-refused, recount-length, children-few}
 use Rattle.list_step.proofs.Family.{countsOf}
 use Rattle.list_step.proofs.Laid.{Laid, kid-laid}
+use Rattle.list_step.proofs.Exchanged.{exchanged-sum}
+
+-- ── the counts of the children read where they lie ──
+
+module _ (m : List ℕ) (p : ℕ) where
+  -- the loop that adds the counts up, at the j-th child: s are the sums on its left
+  abbrev pub Added : ℕ → TextSum → Type 0
+  Added j s = Within s j × (sumFrom s (drop j (childrenOf m p)) ≡ totalOf (childrenOf m p))
+
+  module _ (e : isList m p ≡ true) where
+    pub counts-read : (j : ℕ) (t : TextInfo) → j < lenOf m p → (r : Info) → info r ≡ infoOf m p j → r ≡ Info·case.Is t → t ≡ getD (childrenOf m p) j noKid .info
+    counts-read j t l r w z =
+        let s = list-says m p e in
+        info-opened m p j (s .0) (omega (arith, s .2)) r w t z
+        ∙ ap (λ (x : Kid). x .info) (sym (getD-take (lenOf m p) (entries (regionOf m p)) j noKid l))
+
+    pub counts-there : (j : ℕ) (q : Refusal) → j < lenOf m p → (r : Info) → info r ≡ infoOf m p j → r ≡ Info·case.Refused q → ⊥
+    counts-there j q l r w z = let s = list-says m p e in info-there m p j (s .0) (omega (arith, s .2)) r w q z
+
+    pub added-none : (s : TextSum) → s ≡ zeros → Added 0 s
+    added-none s z = (within-none s z, ap (λ (x : TextSum). sumFrom x (childrenOf m p)) z)
+
+    pub added-one : (j : ℕ) (s : TextSum) (t : TextInfo) (r : TextSum) → j < lenOf m p → Added j s → t ≡ getD (childrenOf m p) j noKid .info
+        → t .bytes ≤ 4294967295 → t .chars ≤ 4294967295 → t .«utf16_surrogates» ≤ 4294967295 → t .«line_breaks» ≤ 4294967295 → Summed s t r → Added (j + 1) r
+    added-one j s t r l a z b c u v w =
+        let x : Plus s t r = plus-exact s t r (within-more s j 16 (omega (arith, list-says m p e .2)) (a .0)) b c u v w in
+        (within-plus s t r j (a .0) x, sum-turn (childrenOf m p) j s t r (omega (arith, children-few m p e)) z x ∙ a .1)
 
 module _ (m : List ℕ) (p i : ℕ) (new : TextInfo) where
   abbrev ks : List Kid
@@ -52,10 +77,6 @@ module _ (m : List ℕ) (p i : ℕ) (new : TextInfo) where
 
   abbrev done : Made × List ℕ
   done = (sized 4 (lenOf m p) (countsOf anew), kidPut m p i own)
-
-  -- the loop that adds the counts up, at the j-th child: s are the sums on its left
-  abbrev pub Added : ℕ → TextSum → Type 0
-  Added j s = Within s j × (sumFrom s (drop j anew) ≡ totalOf anew)
 
   -- ── the tests ──
 
@@ -94,38 +115,21 @@ module _ (m : List ℕ) (p i : ℕ) (new : TextInfo) where
 
     -- ── the code ──
 
-    pub counts-own : (j : ℕ) → j ≡ i → new ≡ getD anew j noKid .info
-    counts-own j z = ap (λ (k : Kid). k .info) (sym (ap (λ (x : ℕ). getD anew x noKid) z ∙ own-at))
+    -- all of them added: the child's own counts taken off, and the new ones added
+    pub added-all : (j : ℕ) (s : TextSum) → j ≡ lenOf m p → Added m p j s → (old : TextInfo) (r q : TextSum) → old ≡ getD ks i noKid .info
+        → new .bytes ≤ 4294967295 → new .chars ≤ 4294967295 → new .«utf16_surrogates» ≤ 4294967295 → new .«line_breaks» ≤ 4294967295
+        → Summed r old s → Summed r new q → q ≡ totalOf anew
+    added-all j s l a old r q z b c u v x y =
+        let few = list-says m p e .2 in
+        let total : s ≡ totalOf ks = sum-end ks j s (omega (arith, children-few m p e)) ∙ a .1 in
+        exchanged-sum ks i own s old r q within total z (within-more s j 16 (omega arith) (a .0)) b c u v x y
+        ∙ ap (λ (l : List Kid). totalOf l) as-set
 
-    pub counts-other : (j : ℕ) (r : Entry) (k : Kid) → (j ≡ i → ⊥) → j < lenOf m p → entry r ≡ kidOf m p j → r ≡ Entry·case.Is k → k .info ≡ getD anew j noKid .info
-    counts-other j r k z l w q =
-        ap (λ (x : Kid). x .info)
-        (entry-opened r m p j k w q .2
-        ∙ sym (getD-take (lenOf m p) (entries (regionOf m p)) j noKid l)
-        ∙ sym (getD-set-other ks i j own noKid z)
-        ∙ ap (λ (x : List Kid). getD x j noKid) as-set)
-
-    pub added-none : (s : TextSum) → s ≡ zeros → Added 0 s
-    added-none s z = (within-none s z, ap (λ (x : TextSum). sumFrom x anew) z)
-
-    pub added-one : (j : ℕ) (s : TextSum) (t : TextInfo) (r : TextSum) → j < lenOf m p → Added j s → t ≡ getD anew j noKid .info
-        → t .bytes ≤ 4294967295 → t .chars ≤ 4294967295 → t .«utf16_surrogates» ≤ 4294967295 → t .«line_breaks» ≤ 4294967295 → Summed s t r → Added (j + 1) r
-    added-one j s t r l a z b c u v w =
-        let x : Plus s t r = plus-exact s t r (within-more s j 16 (omega (arith, list-says m p e .2)) (a .0)) b c u v w in
-        (within-plus s t r j (a .0) x, sum-turn anew j s t r (omega (arith, many)) z x ∙ a .1)
-
-    pub added-all : (j : ℕ) (s : TextSum) → lenOf m p ≤ j → Added j s → s ≡ totalOf anew
-    added-all j s l a = sum-end anew j s (omega (arith, many)) ∙ a .1
-
-    pub entry-known : (r : Entry) (q : Refusal) → entry r ≡ kidOf m p i → r ≡ Entry·case.Refused q → ⊥
-    entry-known r q w z = let s = list-says m p e in entry-there r m p i q w z (s .0) (omega (arith, s .2))
-
-    pub entry-put : (r : Entry) (k : Kid) (v : Verdict) (after : List ℕ) → entry r ≡ kidOf m p i → r ≡ Entry·case.Is k → Wrote (kidSet m p i (kid (k .slot) new)) m v after
-        → after ≡ kidPut m p i own
-    entry-put r k v after w z g =
+    pub entry-put : (v : Verdict) (after : List ℕ) → Wrote (infoSet m p i new) m v after → after ≡ kidPut m p i own
+    entry-put v after g =
         let s = list-says m p e in
-        kid-set m p i (kid (k .slot) new) v after g (s .0) (omega (arith, s .2))
-        ∙ ap (λ (x : Kid). kidPut m p i (kid (x .slot) new)) (entry-opened r m p i k w z .2 ∙ sym (getD-take (lenOf m p) (entries (regionOf m p)) i noKid h))
+        kid-set m p i (kid (getD (entries (regionOf m p)) i noKid .slot) new) v after g (s .0) (omega (arith, s .2))
+        ∙ ap (λ (x : Kid). kidPut m p i (kid (x .slot) new)) (sym (getD-take (lenOf m p) (entries (regionOf m p)) i noKid h))
 
     module _ (s : TextSum) (is : s ≡ totalOf anew) (t : Info) (told : info t ≡ ruled ((2, tooWide s) ∷ []) (narrowed s)) where
       c : info t ≡ ruled ((2, tooWide (totalOf anew)) ∷ []) (narrowed (totalOf anew))

@@ -12,12 +12,11 @@ use nodes::list_info;
 use nodes::load;
 use nodes::narrow;
 use nodes::store;
-use pool::Entry;
 use pool::Head;
 use pool::Kid;
 use pool::head_of;
-use pool::kid_of;
-use pool::set_kid;
+use pool::info_of;
+use pool::set_info;
 use slots::take_slot;
 use text_info::Info;
 use text_info::TextInfo;
@@ -143,21 +142,24 @@ fn add(m: &mut [u8], slot: usize, list: NodeChildren, at: usize, item: Kid) -> E
     part(m, slot, two.left, two.right)
 }
 
-// The counts of the i-th child of the list in a slot, where the one at an index has these.
-fn counts_at(m: &[u8], slot: usize, i: usize, idx: usize, new: TextInfo) -> TextInfo
-    requires { ⌜ (isList (now m) slot ≡ true) × (idx < lenOf (now m) slot) × (i < lenOf (now m) slot) ⌝ }
-    ensures { λ r. ⌜ r ≡ getD (recount idx new (childrenOf (now (m .entry)) slot)) i noKid .info ⌝ }
+// The counts of the i-th child of the list in a slot.
+fn counts_at(m: &[u8], slot: usize, i: usize) -> TextInfo
+    requires { ⌜ (isList (now m) slot ≡ true) × (i < lenOf (now m) slot) ⌝ }
+    ensures { λ r. ⌜ r ≡ getD (childrenOf (now (m .entry)) slot) i noKid .info ⌝ }
 {
-    if i == idx {
-        return new;
-    }
-    let Entry::Is(kid) = kid_of(m, slot, i) else {
-        return new;
+    let Info::Is(info) = info_of(m, slot, i) else {
+        return TextInfo {
+            bytes: 0,
+            chars: 0,
+            utf16_surrogates: 0,
+            line_breaks: 0,
+        };
     };
-    kid.info
+    info
 }
 
-// The counts of its n children added up where they lie.
+// The counts of its n children added up where they lie, the one at an index with these. All are added, and its own taken off again: a test
+// in the loop takes longer.
 fn total_with(m: &[u8], slot: usize, n: usize, idx: usize, new: TextInfo) -> TextSum
     requires { ⌜ (isList (now m) slot ≡ true) × (lenOf (now m) slot ≡ n) × (idx < n) ⌝ }
     ensures { λ r. ⌜ r ≡ totalOf (recount idx new (childrenOf (now (m .entry)) slot)) ⌝ }
@@ -165,29 +167,18 @@ fn total_with(m: &[u8], slot: usize, n: usize, idx: usize, new: TextInfo) -> Tex
     let mut all = TextSum::new();
     let mut i = 0;
     while i < n {
-        all = all.add(counts_at(m, slot, i, idx, new));
+        all = all.add(counts_at(m, slot, i));
         i += 1;
     }
-    all
+    all.sub(counts_at(m, slot, idx)).add(new)
 }
 
-// Writes the entry of the child at an index: its slot, and these counts.
+// Writes these counts into the entry of the child at an index.
 fn put_counts(m: &mut [u8], slot: usize, idx: usize, info: TextInfo)
     requires { ⌜ (isList (now m) slot ≡ true) × (idx < lenOf (now m) slot) ⌝ }
     ensures { λ _. ⌜ now (m .exit) ≡ kidPut (now (m .entry)) slot idx (kid (getD (childrenOf (now (m .entry)) slot) idx noKid .slot) info) ⌝ }
 {
-    let Entry::Is(old) = kid_of(m, slot, idx) else {
-        return;
-    };
-    set_kid(
-        m,
-        slot,
-        idx,
-        Kid {
-            slot: old.slot,
-            info: info,
-        },
-    );
+    set_info(m, slot, idx, info);
 }
 
 // The child at an index has these counts now.

@@ -1,4 +1,5 @@
 pub mod Rules
 pub mod Beside
 pub mod Written
+pub mod Runs
 pub mod Moves

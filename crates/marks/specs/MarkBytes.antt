@@ -1,7 +1,7 @@
 -- The marks in the bytes of the memory's head: where one stands, one set, and all moved by an edit.
 use mathlib.Core.Bool.{Bool, not, _||_, cond}
 use mathlib.Core.List.{List, [], _∷_}
-use Prim.Native.Nat.{ℕ, zero, suc, _%_, _^_}
+use Prim.Native.Nat.{ℕ, zero, suc, _+_, _%_, _^_}
 use lib.Dec.{leb, eqb}
 use Rattle.plain.specs.Outcome.{Outcome, ruled}
 use Rattle.plain_calls.specs.Marks.{movedTo, raised}
@@ -29,6 +29,17 @@ unfoldable pub marksMoved : (ℕ → ℕ) → List ℕ → ℕ → List ℕ
 unfolding markMoved
 marksMoved f m zero = m
 marksMoved f m (suc k) = markMoved f (marksMoved f m k) k
+
+-- the n marks from k on moved; and the bytes that say whether they are live, added up
+unfoldable pub runMoved : (ℕ → ℕ) → List ℕ → ℕ → ℕ → List ℕ
+unfolding markMoved
+runMoved f m k zero = m
+runMoved f m k (suc n) = markMoved f (runMoved f m k n) (k + n)
+
+unfoldable pub liveBytes : List ℕ → ℕ → ℕ → ℕ
+unfolding liveAt
+liveBytes m k zero = 0
+liveBytes m k (suc n) = liveBytes m k n + liveAt m (k + n)
 
 -- all marks moved, and the edit number raised, by an edit that puts so many new chars in the place of [s, e)
 abbrev pub editedPut : List ℕ → ℕ → ℕ → ℕ → List ℕ

@@ -10,13 +10,13 @@ use note_head::edit_number;
 use note_head::mark_live;
 use note_head::mark_place;
 ghost use mathlib.Core.Path.{_≡_};
-ghost use Prim.Native.Nat.{_≤_, _<_};
+ghost use Prim.Native.Nat.{_+_, _≤_, _<_};
 ghost use lib.ListN.{length};
 ghost use Rattle.answer.specs.Answers.{number};
 ghost use Rattle.plain_calls.specs.Marks.{lowest, movedTo};
 ghost use Rattle.pool.specs.Calls.{Wrote};
-ghost use Rattle.note_head.specs.Head.{marksFrom};
-ghost use Rattle.marks.specs.MarkBytes.{standingIn, markSet, markMoved, marksMoved, edited};
+ghost use Rattle.note_head.specs.Head.{liveAt, marksFrom};
+ghost use Rattle.marks.specs.MarkBytes.{standingIn, markSet, markMoved, liveBytes, runMoved, marksMoved, edited};
 
 const HEAD_BYTES: usize = 6144;
 
@@ -26,6 +26,11 @@ const MARKS: usize = 256;
 const MARKS_AT: usize = 2048;
 
 const MARK_BYTES: usize = 16;
+
+// An edit looks at all marks, so many at once.
+const RUN: usize = 8;
+
+const RUNS: usize = 32;
 
 // The lowest number of a mark that is not live; 256 where all are.
 pub fn lowest_free(m: &[u8]) -> usize
@@ -85,7 +90,7 @@ fn moved_to(s: usize, e: usize, new: u32, q: usize) -> usize
     q - (e - s) + new as usize
 }
 
-// Most marks are free, and an edit looks at all of them: so the byte is read where it lies.
+// Mark k moves if it is live.
 fn move_mark(m: &mut [u8], k: usize, s: usize, e: usize, new: u32)
     requires { ⌜ (6144 ≤ length (now m)) × (k < 256) ⌝ }
     ensures { λ _. ⌜ now (m .exit) ≡ markMoved (movedTo s e new) (now (m .entry)) k ⌝ }
@@ -97,14 +102,57 @@ fn move_mark(m: &mut [u8], k: usize, s: usize, e: usize, new: u32)
     set_mark_place(m, k, (q % 4294967296) as u32);
 }
 
+fn wide(x: u8) -> u32
+    ensures { λ r. ⌜ (r ≡ x) × (r < 256) ⌝ }
+{
+    x as u32
+}
+
+// The byte of mark k that says whether it is live.
+fn live_byte(m: &[u8], k: usize) -> u32
+    requires { ⌜ (6144 ≤ length (now m)) × (k < 256) ⌝ }
+    ensures { λ r. ⌜ (r ≡ liveAt (now (m .entry)) k) × (r < 256) ⌝ }
+{
+    wide(m[MARKS_AT + MARK_BYTES * k])
+}
+
+// Those bytes of the next RUN marks, added up: 0 where no byte is 1.
+fn live_bytes(m: &[u8], k: usize) -> u32
+    requires { ⌜ (6144 ≤ length (now m)) × (k + 8 ≤ 256) ⌝ }
+    ensures { λ r. ⌜ r ≡ liveBytes (now (m .entry)) k 8 ⌝ }
+{
+    let mut all: u32 = 0;
+    let mut j: usize = 0;
+    while j < RUN {
+        all += live_byte(m, k + j);
+        j += 1;
+    }
+    all
+}
+
+// The next RUN marks, passed over at once where all of them are free, as most are.
+fn move_run(m: &mut [u8], k: usize, s: usize, e: usize, new: u32)
+    requires { ⌜ (6144 ≤ length (now m)) × (k + 8 ≤ 256) ⌝ }
+    ensures { λ _. ⌜ now (m .exit) ≡ runMoved (movedTo s e new) (now (m .entry)) k 8 ⌝ }
+{
+    if live_bytes(m, k) == 0 {
+        return;
+    }
+    let mut j: usize = 0;
+    while j < RUN {
+        move_mark(m, k + j, s, e, new);
+        j += 1;
+    }
+}
+
 fn move_marks(m: &mut [u8], s: usize, e: usize, new: u32)
     requires { ⌜ 6144 ≤ length (now m) ⌝ }
     ensures { λ _. ⌜ now (m .exit) ≡ marksMoved (movedTo s e new) (now (m .entry)) 256 ⌝ }
 {
-    let mut k: usize = 0;
-    while k < MARKS {
-        move_mark(m, k, s, e, new);
-        k += 1;
+    let mut i: usize = 0;
+    while i < RUNS {
+        move_run(m, RUN * i, s, e, new);
+        i += 1;
     }
 }
 

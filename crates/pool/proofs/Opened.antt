@@ -7,7 +7,7 @@ use native.Mathlib.Omega.{arith}
 use lib.Dec.{eqb}
 use lib.ListN.{length, getD}
 use borrow.Author.Tests.{ltb-false, le-ltb, eqb-true, eqb-false}
-use Rattle.plain.specs.Outcome.{Outcome, Outcome.value, Outcome.refused, past}
+use Rattle.plain.specs.Outcome.{Outcome, Outcome.value, Outcome.refused, past, mapped}
 use Rattle.plain.proofs.Logic.{neither}
 use Rattle.plain.proofs.Outcome.{rule-passed, one-passed, accepted, all-accepted}
 use Rattle.answer.specs.Answers.{refusalNumber, number}
@@ -16,12 +16,16 @@ use Rattle.answer.specs.declared.Number.{Number}
 use Rattle.answer.specs.declared.Number.the-variants as Number·case
 use Rattle.answer.specs.declared.Verdict.the-variants as Verdict·case
 use Rattle.leaf_bytes.proofs.Opened.{never}
+use Rattle.text_info.specs.Info.{info}
+use Rattle.text_info.specs.declared.TextInfo.{TextInfo}
+use Rattle.text_info.specs.declared.Info.{Info}
+use Rattle.text_info.specs.declared.Info.the-variants as Info·case
 use Rattle.pool.specs.declared.Kid.{Kid}
 use Rattle.pool.specs.declared.Head.{Head}
 use Rattle.pool.specs.declared.Entry.{Entry}
 use Rattle.pool.specs.declared.Entry.the-variants as Entry·case
 use Rattle.pool.specs.Slot.{slotStart, kindOf, lenOf, nextOf, regionOf, entries, noKid, headPut, kidPut}
-use Rattle.pool.specs.Calls.{outside, noEntry, Held, Held.free, Held.leaf, Held.list, held, heldBy, wrongHead, headOf, entry, kidOf, regionStart, headSet, kidSet, Wrote}
+use Rattle.pool.specs.Calls.{outside, noEntry, Held, Held.free, Held.leaf, Held.list, held, heldBy, wrongHead, headOf, entry, kidOf, childOf, infoOf, regionStart, headSet, kidSet, Wrote}
 use Rattle.pool.proofs.Rules.{above}
 
 inside : (m : List ℕ) (s : ℕ) → outside m s ≡ false → slotStart s + 640 ≤ length m
@@ -84,6 +88,40 @@ entry-there r m s i q p e h k =
     let v = getD (entries (regionOf m s)) i noKid in
     never (refusalNumber q) v
     (sym (ap entry e) ∙ p ∙ rule-passed 2 (outside m s) (noEntry i ∷ []) v (le-ltb (length m) (slotStart s + 640) h) ∙ one-passed 3 (past i 15) v (le-ltb 15 i (omega arith)))
+
+-- the slot of its child, and the counts
+module _ (m : List ℕ) (s i : ℕ) (h : slotStart s + 640 ≤ length m) (k : i < 16) where
+  abbrev held-kid : Kid
+  held-kid = getD (entries (regionOf m s)) i noKid
+
+  there : kidOf m s i ≡ value held-kid
+  unfolding kidOf
+  there =
+      rule-passed 2 (outside m s) (noEntry i ∷ []) held-kid (le-ltb (length m) (slotStart s + 640) h)
+      ∙ one-passed 3 (past i 15) held-kid (le-ltb 15 i (omega arith))
+
+  same-value : {A : Type 0} (a b : A) → value a ≡ value b → a ≡ b
+  same-value a b e = cc
+
+  module _ (r : Number) (promise : number r ≡ childOf m s i) where
+    child-is : number r ≡ value (held-kid .slot)
+    child-is = promise ∙ ap (mapped (λ (x : Kid). x .slot)) there
+
+    pub child-opened : (n : ℕ) → r ≡ Number·case.Is n → n ≡ held-kid .slot
+    child-opened n e = same-value n (held-kid .slot) (sym (ap number e) ∙ child-is)
+
+    pub child-there : (q : Refusal) → r ≡ Number·case.Refused q → ⊥
+    child-there q e = never (refusalNumber q) (held-kid .slot) (sym (ap number e) ∙ child-is)
+
+  module _ (r : Info) (promise : info r ≡ infoOf m s i) where
+    info-is : info r ≡ value (held-kid .info)
+    info-is = promise ∙ ap (mapped (λ (x : Kid). x .info)) there
+
+    pub info-opened : (t : TextInfo) → r ≡ Info·case.Is t → t ≡ held-kid .info
+    info-opened t e = same-value t (held-kid .info) (sym (ap info e) ∙ info-is)
+
+    pub info-there : (q : Refusal) → r ≡ Info·case.Refused q → ⊥
+    info-there q e = never (refusalNumber q) (held-kid .info) (sym (ap info e) ∙ info-is)
 
 -- ── a write ──
 

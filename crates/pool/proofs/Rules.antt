@@ -6,7 +6,7 @@ use Prim.Native.Nat.{ℕ, _+_, _*_, _≤_, _<_}
 use native.Mathlib.Omega.{arith}
 use lib.ListN.{length, getD}
 use borrow.Author.Tests.{lt-ltb, le-ltb, ltb-false}
-use Rattle.plain.specs.Outcome.{Outcome, Outcome.value, Outcome.refused, Rule, ruled, past}
+use Rattle.plain.specs.Outcome.{Outcome, Outcome.value, Outcome.refused, Rule, ruled, past, mapped}
 use Rattle.plain.proofs.Logic.{cut, or-left}
 use Rattle.plain.proofs.Outcome.{rule-applies, rule-passed, one-applies, one-passed, accepted, one-accepted}
 use Rattle.answer.specs.Answers.{refusalNumber, number, verdict}
@@ -15,11 +15,12 @@ use Rattle.answer.specs.declared.Number.{Number}
 use Rattle.answer.specs.declared.Number.the-variants.{Is, Refused}
 use Rattle.answer.specs.declared.Verdict.{Verdict}
 use Rattle.answer.proofs.Opened.{opened, passed-up, passed-on}
+use Rattle.text_info.specs.declared.TextInfo.{TextInfo}
 use Rattle.pool.specs.declared.Kid.{Kid}
 use Rattle.pool.specs.declared.Head.{Head}
 use Rattle.pool.specs.Big.{twoAt, fourAt}
 use Rattle.pool.specs.Slot.{slotStart, kidStart, kindOf, lenOf, nextOf, regionOf, kidAt, entries, noKid, headPut, kidPut}
-use Rattle.pool.specs.Calls.{outside, noSlot, noEntry, Held, Held.free, Held.leaf, Held.list, held, heldBy, wrongHead, headOf, kidOf, regionStart, headSet, kidSet, Wrote}
+use Rattle.pool.specs.Calls.{outside, noSlot, noEntry, Held, Held.free, Held.leaf, Held.list, held, heldBy, wrongHead, headOf, kidOf, childOf, infoOf, regionStart, headSet, kidSet, Wrote}
 use Rattle.pool.proofs.Slots.{kind-lies, len-lies, next-lies, kid-lies}
 
 -- ── where a slot begins ──
@@ -126,6 +127,24 @@ module _ (r : Number) (m : List ℕ) (s i : ℕ) (promise : number r ≡ ruled (
       let v = getD (entries (regionOf m s)) i noKid in
       let z : k ≡ v = p ∙ ap (kidAt m) (o .0) ∙ sym (kid-lies m s i (o .2)) in
       ap (λ (x : Kid). value x) z ∙ sym (opened r (noSlot m s ∷ noEntry i ∷ []) (kidStart s i) promise at v e .1)
+
+  -- of its child the slot, and the counts
+  pub child-refused : (q : Refusal) → r ≡ Refused q → number r ≡ childOf m s i
+  child-refused q e = ap number e ∙ ap (mapped (λ (k : Kid). k .slot)) (kid-refused q e)
+
+  pub child-found : (at n : ℕ) → r ≡ Is at → n ≡ fourAt m at → value n ≡ childOf m s i
+  unfolding kidAt
+  child-found at n e p = ap (λ (x : ℕ). value x) p ∙ ap (mapped (λ (k : Kid). k .slot)) (kid-found at (kidAt m at) e refl)
+
+  pub info-refused : (q : Refusal) → r ≡ Refused q → refused (refusalNumber q) ≡ infoOf m s i
+  info-refused q e = ap (mapped (λ (k : Kid). k .info)) (kid-refused q e)
+
+  pub info-found : (at : ℕ) (t : TextInfo) → r ≡ Is at → t ≡ kidAt m at .info → value t ≡ infoOf m s i
+  info-found at t e p = ap (λ (x : TextInfo). value x) p ∙ ap (mapped (λ (k : Kid). k .info)) (kid-found at (kidAt m at) e refl)
+
+  pub child-is : (at : ℕ) → r ≡ Is at → fourAt m at ≡ getD (entries (regionOf m s)) i noKid .slot
+  unfolding kidAt
+  child-is at e = let o = place-is at e in ap (fourAt m) (o .0) ∙ ap (λ (k : Kid). k .slot) (sym (kid-lies m s i (o .2)))
 
   pub put-refused : (k : Kid) (q : Refusal) → r ≡ Refused q → kidSet m s i k ≡ refused (refusalNumber q)
   unfolding kidSet

@@ -8,6 +8,7 @@ use lib.ListN.{length, getD}
 use Rattle.plain.specs.Outcome.{Outcome, Outcome.value, Outcome.refused, Rule, ruled, past, kept, mapped}
 use Rattle.answer.specs.Answers.{refusalNumber, verdict}
 use Rattle.answer.specs.declared.Verdict.{Verdict}
+use Rattle.text_info.specs.declared.TextInfo.{TextInfo}
 use Rattle.pool.specs.declared.Kid.{Kid}
 use Rattle.pool.specs.declared.Head.{Head}
 use Rattle.pool.specs.declared.Head.the-variants as Head·case
@@ -58,6 +59,13 @@ entry (Entry·case.Refused r) = refused (refusalNumber r)
 unfoldable pub kidOf : List ℕ → ℕ → ℕ → Outcome Kid
 kidOf m s i = ruled (noSlot m s ∷ noEntry i ∷ []) (getD (entries (regionOf m s)) i noKid)
 
+-- of its child the slot, and the counts
+abbrev pub childOf : List ℕ → ℕ → ℕ → Outcome ℕ
+childOf m s i = mapped (λ k. k .slot) (kidOf m s i)
+
+abbrev pub infoOf : List ℕ → ℕ → ℕ → Outcome TextInfo
+infoOf m s i = mapped (λ k. k .info) (kidOf m s i)
+
 unfoldable pub regionStart : List ℕ → ℕ → Outcome ℕ
 regionStart m s = ruled (noSlot m s ∷ []) (slotStart s + 128)
 
@@ -79,6 +87,10 @@ listSet m s len = headSet m s 2 len 16 0
 
 unfoldable pub kidSet : List ℕ → ℕ → ℕ → Kid → Outcome (List ℕ)
 kidSet m s i k = ruled (noSlot m s ∷ noEntry i ∷ []) (kidPut m s i k)
+
+-- the child keeps its slot, and gets other counts
+abbrev pub infoSet : List ℕ → ℕ → ℕ → TextInfo → Outcome (List ℕ)
+infoSet m s i t = kidSet m s i (record { slot = getD (entries (regionOf m s)) i noKid .slot; info = t })
 
 -- A writing call: its verdict, and every byte afterwards. A refused one changes none.
 pub record Wrote (o : Outcome (List ℕ)) (before : List ℕ) (r : Verdict) (after : List ℕ) : Type 0 where

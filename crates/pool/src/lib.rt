@@ -11,6 +11,7 @@ use answer::Number;
 use answer::Refusal;
 use answer::Verdict;
 use leaf_bytes::MAX_BYTES;
+use text_info::Info;
 use text_info::TextInfo;
 ghost use mathlib.Core.Path.{_≡_};
 ghost use mathlib.Core.List.{[], _∷_};
@@ -19,9 +20,10 @@ ghost use lib.ListN.{length, getD};
 ghost use Rattle.plain.specs.Outcome.{ruled};
 ghost use Rattle.answer.specs.Answers.{number};
 ghost use Rattle.leaf_bytes.specs.Moves.{overlaid};
+ghost use Rattle.text_info.specs.Info.{info};
 ghost use Rattle.pool.specs.Big.{twoAt, fourAt};
 ghost use Rattle.pool.specs.Slot.{slotStart, kidStart, headBytes, kidAt, kidBytes, Fits};
-ghost use Rattle.pool.specs.Calls.{noSlot, noEntry, held, heldBy, wrongHead, headOf, entry, kidOf, regionStart, headSet, freeSet, leafSet, listSet, kidSet, Wrote};
+ghost use Rattle.pool.specs.Calls.{noSlot, noEntry, held, heldBy, wrongHead, headOf, entry, kidOf, childOf, infoOf, regionStart, headSet, freeSet, leafSet, listSet, kidSet, infoSet, Wrote};
 
 pub const MAX_CHILDREN: usize = 16;
 
@@ -184,18 +186,26 @@ fn kid_start(m: &[u8], slot: usize, i: usize) -> Number
     Number::Is(at + j)
 }
 
-// The child in the 20 bytes from `at` on.
+// The counts of the child in the 20 bytes from `at` on.
+fn info_at(m: &[u8], at: usize) -> TextInfo
+    requires { ⌜ at + 20 ≤ length (now m) ⌝ }
+    ensures { λ r. ⌜ r ≡ kidAt (now (m .entry)) at .info ⌝ }
+{
+    TextInfo {
+        bytes: read_u32(m, at + 4),
+        chars: read_u32(m, at + 8),
+        utf16_surrogates: read_u32(m, at + 12),
+        line_breaks: read_u32(m, at + 16),
+    }
+}
+
+// That child.
 fn kid_at(m: &[u8], at: usize) -> Kid
     requires { ⌜ at + 20 ≤ length (now m) ⌝ }
     ensures { λ r. ⌜ r ≡ kidAt (now (m .entry)) at ⌝ }
 {
     let slot = read_u32(m, at);
-    let info = TextInfo {
-        bytes: read_u32(m, at + 4),
-        chars: read_u32(m, at + 8),
-        utf16_surrogates: read_u32(m, at + 12),
-        line_breaks: read_u32(m, at + 16),
-    };
+    let info = info_at(m, at);
     Kid { slot, info }
 }
 
@@ -206,6 +216,26 @@ pub fn kid_of(m: &[u8], slot: usize, i: usize) -> Entry
     match kid_start(m, slot, i) {
         Number::Refused(r) => Entry::Refused(r),
         Number::Is(at) => Entry::Is(kid_at(m, at)),
+    }
+}
+
+// The slot of an entry's child alone, and its counts alone: a search and a sum read many entries, and no more of each than they need.
+pub fn child_of(m: &[u8], slot: usize, i: usize) -> Number
+    ensures { λ r. ⌜ number r ≡ childOf (now (m .entry)) slot i ⌝ }
+{
+    let place = kid_start(m, slot, i);
+    let Number::Is(at) = place else {
+        return place;
+    };
+    Number::Is(read_u32(m, at) as usize)
+}
+
+pub fn info_of(m: &[u8], slot: usize, i: usize) -> Info
+    ensures { λ r. ⌜ info r ≡ infoOf (now (m .entry)) slot i ⌝ }
+{
+    match kid_start(m, slot, i) {
+        Number::Refused(r) => Info::Refused(r),
+        Number::Is(at) => Info::Is(info_at(m, at)),
     }
 }
 
@@ -230,6 +260,27 @@ pub fn set_kid(m: &mut [u8], slot: usize, i: usize, k: Kid) -> Verdict
         Number::Refused(r) => Verdict::Refused(r),
         Number::Is(at) => {
             put_kid(m, at, k);
+            Verdict::Accepted
+        }
+    }
+}
+
+// Writes other counts into an entry of a slot's child list.
+pub fn set_info(m: &mut [u8], slot: usize, i: usize, new: TextInfo) -> Verdict
+    ensures { λ r. ⌜ Wrote (infoSet (now (m .entry)) slot i new) (now (m .entry)) r (now (m .exit)) ⌝ }
+{
+    match kid_start(m, slot, i) {
+        Number::Refused(r) => Verdict::Refused(r),
+        Number::Is(at) => {
+            let child = read_u32(m, at);
+            put_kid(
+                m,
+                at,
+                Kid {
+                    slot: child,
+                    info: new,
+                },
+            );
             Verdict::Accepted
         }
     }

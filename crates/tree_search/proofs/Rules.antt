@@ -2,20 +2,20 @@
 use mathlib.Core.Path.{_≡_, refl, sym, ap, _∙_}
 use mathlib.Core.Bool.{Bool, true, false}
 use mathlib.Core.List.{List}
-use Prim.Native.Nat.{ℕ, zero, suc, _-_, _*_, _≤_, _<_}
+use Prim.Native.Nat.{ℕ, zero, suc, _+_, _-_, _*_, _≤_, _<_}
 use native.Mathlib.Omega.{arith}
-use lib.ListN.{getD}
+use lib.ListN.{length, getD}
 use Rattle.plain.specs.Outcome.{Outcome.value, Outcome.refused, mapped}
-use Rattle.answer.specs.Answers.{refusalNumber}
+use Rattle.answer.specs.Answers.{refusalNumber, number}
 use Rattle.answer.specs.declared.Refusal.{Refusal}
+use Rattle.answer.specs.declared.Number.{Number}
+use Rattle.answer.specs.declared.Number.the-variants as Number·case
 use Rattle.text_info.specs.Info.{zeros}
 use Rattle.text_info.specs.declared.TextSum.{TextSum}
 use Rattle.pool.specs.declared.Kid.{Kid}
-use Rattle.pool.specs.Slot.{noKid}
-use Rattle.pool.specs.declared.Entry.{Entry}
-use Rattle.pool.specs.declared.Entry.the-variants as Entry·case
-use Rattle.pool.specs.Calls.{entry, kidOf}
-use Rattle.pool.proofs.Opened.{entry-opened, entry-there}
+use Rattle.pool.specs.Slot.{slotStart, noKid}
+use Rattle.pool.specs.Calls.{childOf}
+use Rattle.pool.proofs.Opened.{child-opened, child-there}
 use Rattle.node_children.specs.Kids.{listOf}
 use Rattle.child_search.specs.declared.Found.{Found}
 use Rattle.child_search.specs.declared.Found.the-variants as Found·case
@@ -60,18 +60,23 @@ module _ (m : List ℕ) (s : ℕ) (by : Measure) (at : ℕ) where
     pub child-refused : (q : Refusal) → f ≡ Found·case.Refused q → refused (refusalNumber q) ≡ branchAt m s by at
     child-refused q e = ap (mapped (told m s)) (sym (ap found e) ∙ search) ∙ sym searched-so
 
-    module _ (i : ℕ) (left : TextSum) (e : f ≡ Found·case.At i left) (r : Entry) (p : entry r ≡ kidOf m s i) where
+    module _ (i : ℕ) (left : TextSum) (e : f ≡ Found·case.At i left) (r : Number) (p : number r ≡ childOf m s i) where
       at-child : listSearched m s by at ≡ value (i, left)
       at-child = sym search ∙ ap found e
 
       -- the entry of a child that was found is there
-      pub child-there : (q : Refusal) → r ≡ Entry·case.Refused q → refused (refusalNumber q) ≡ branchAt m s by at
-      child-there q z = let c = search-child m s by at i left at-child in absurd (entry-there r m s i q p z (list-says m s (c .0) .0) (omega (arith, c .1, list-says m s (c .0) .2)))
+      in-list : (slotStart s + 640 ≤ length m) × (i < 16)
+      in-list = let c = search-child m s by at i left at-child in (list-says m s (c .0) .0, omega (arith, c .1, list-says m s (c .0) .2))
 
-      pub child-found : (k : Kid) → r ≡ Entry·case.Is k → value (i, (k .slot, left)) ≡ branchAt m s by at
-      child-found k z =
+      pub child-none : (q : Refusal) → r ≡ Number·case.Refused q → refused (refusalNumber q) ≡ branchAt m s by at
+      child-none q z = absurd (child-there m s i (in-list .0) (in-list .1) r p q z)
+
+      pub child-found : (n : ℕ) → r ≡ Number·case.Is n → value (i, (n, left)) ≡ branchAt m s by at
+      child-found n z =
           let c = search-child m s by at i left at-child in
-          ap (λ (x : Kid). value (i, (x .slot, left))) (entry-opened r m s i k p z .2 ∙ c .2) ∙ ap (mapped (told m s)) (sym at-child) ∙ sym searched-so
+          ap (λ (x : ℕ). value (i, (x, left))) (child-opened m s i (in-list .0) (in-list .1) r p n z ∙ ap (λ (k : Kid). k .slot) (c .2))
+          ∙ ap (mapped (told m s)) (sym at-child)
+          ∙ sym searched-so
 
 -- ── the leaf below ──
 

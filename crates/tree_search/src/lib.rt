@@ -1,10 +1,10 @@
 // A leaf sought in the tree by an index, one level down at each step. Total on any bytes: where a slot on the way holds no list, refused
 // by 2; where the index is past the end of what lies below one, by 3.
+use answer::Number;
 use answer::Refusal;
 use child_search::Found;
 use child_search::Measure;
-use pool::Entry;
-use pool::kid_of;
+use pool::child_of;
 use text_info::TextSum;
 ghost use mathlib.Core.Path.{_≡_};
 ghost use Prim.Native.Nat.{_-_};
@@ -64,9 +64,9 @@ pub fn child_at(m: &[u8], slot: usize, by: Measure, at: usize) -> Branch
 {
     match nodes::search(m, slot, by, at) {
         Found::Refused(r) => Branch::Refused(r),
-        Found::At(i, left) => match kid_of(m, slot, i) {
-            Entry::Refused(r) => Branch::Refused(r),
-            Entry::Is(kid) => Branch::At(i, kid.slot as usize, left),
+        Found::At(i, left) => match child_of(m, slot, i) {
+            Number::Refused(r) => Branch::Refused(r),
+            Number::Is(kid) => Branch::At(i, kid, left),
         },
     }
 }

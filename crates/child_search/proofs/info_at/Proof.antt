@@ -1,17 +1,15 @@
 -- `info_at` meets its contract: of a slot in the memory the entry is there.
-use mathlib.Core.Path.{ap}
 use borrow.Author.Needs.{needs}
 use borrow.Author.Tests.{ltb-false}
-use Rattle.pool.specs.declared.Kid.{Kid}
-use Rattle.pool.proofs.Opened.{entry-opened, entry-there}
+use Rattle.pool.proofs.Opened.{info-opened, info-there}
 use Rattle.child_search.proofs.info_at.Statement.{statement}
 use Rattle.child_search.proofs.info_at.Tie as tie
 
-kid-of-requires : tie.Need-kid-of-requires
-kid-of-requires c κs = search needs
+info-of-requires : tie.Need-info-of-requires
+info-of-requires c κs = search needs
 
-enum-known-kid : tie.Need-enum-known-kid
-enum-known-kid c = search needs
+enum-known-info : tie.Need-enum-known-info
+enum-known-info c = search needs
 
 enum-told : tie.Need-enum-told
 enum-told c = search needs
@@ -20,14 +18,15 @@ returns : tie.Need-returns
 returns c =
     let a = c .before .before .before .before .args in
     let p = c .before .before .before .before .pre in
-    let k = c .before .before .kid-of in
-    absurd (entry-there (k .result) (a .m .now) (a .slot) (a .i) _ (k .ensures) (c .enum-told .given .1) (ltb-false _ _ (p .0)) (p .1))
+    let k = c .before .before .info-of in
+    absurd (info-there (a .m .now) (a .slot) (a .i) (ltb-false _ _ (p .0)) (p .1) (k .result) (k .ensures) _ (c .enum-told .given .1))
 
 returns-2 : tie.Need-returns-2
 returns-2 c =
-    let a = c .before .before .before .before .before .before .args in
-    let k = c .before .before .before .before .kid-of in
-    ap (λ (x : Kid). x .info) (entry-opened (k .result) (a .m .now) (a .slot) (a .i) _ (k .ensures) (c .before .before .kid .given .1) .2)
+    let a = c .before .before .before .before .before .args in
+    let p = c .before .before .before .before .before .pre in
+    let k = c .before .before .before .info-of in
+    info-opened (a .m .now) (a .slot) (a .i) (ltb-false _ _ (p .0)) (p .1) (k .result) (k .ensures) _ (c .before .info .given .1)
 
 pub info-at-spec : {M : Type 1} → statement M
-info-at-spec = tie.close (tie.spec kid-of-requires enum-known-kid enum-told returns returns-2)
+info-at-spec = tie.close (tie.spec info-of-requires enum-known-info enum-told returns returns-2)

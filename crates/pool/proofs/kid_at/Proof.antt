@@ -7,45 +7,12 @@ use Rattle.pool.proofs.kid_at.Tie as tie
 read-u32-requires : tie.Need-read-u32-requires
 read-u32-requires c κs = search needs
 
-add-read-u32 : tie.Need-add-read-u32
-add-read-u32 c = search needs
-
-read-u32-requires-2 : tie.Need-read-u32-requires-2
-read-u32-requires-2 c κs = search needs
-
-add-read-u32-2 : tie.Need-add-read-u32-2
-add-read-u32-2 c = search needs
-
-read-u32-requires-3 : tie.Need-read-u32-requires-3
-read-u32-requires-3 c κs = search needs
-
-add-read-u32-3 : tie.Need-add-read-u32-3
-add-read-u32-3 c = search needs
-
-read-u32-requires-4 : tie.Need-read-u32-requires-4
-read-u32-requires-4 c κs = search needs
-
-add-read-u32-4 : tie.Need-add-read-u32-4
-add-read-u32-4 c = search needs
-
-read-u32-requires-5 : tie.Need-read-u32-requires-5
-read-u32-requires-5 c κs = search needs
+info-at-requires : tie.Need-info-at-requires
+info-at-requires c κs = search needs
 
 returns : tie.Need-returns
 unfolding kidAt
-returns c = rw (c .before .before .before .before .read-u32 .ensures, c .before .before .before .read-u322 .ensures, c .before .before .read-u323 .ensures, c .before .read-u324 .ensures, c .read-u325 .ensures)
+returns c = rw (c .before .read-u32 .ensures, c .info-at .ensures)
 
 pub kid-at-spec : {M : Type 1} → statement M
-kid-at-spec =
-    tie.close
-    (tie.spec
-    read-u32-requires
-    add-read-u32
-    read-u32-requires-2
-    add-read-u32-2
-    read-u32-requires-3
-    add-read-u32-3
-    read-u32-requires-4
-    add-read-u32-4
-    read-u32-requires-5
-    returns)
+kid-at-spec = tie.close (tie.spec read-u32-requires info-at-requires returns)
