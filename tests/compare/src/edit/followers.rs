@@ -66,7 +66,7 @@ impl Followers {
             }
         }
         for (mark, place) in marks.places.iter().enumerate() {
-            if place.is_some_and(|place| place != due[mark]) {
+            if place.map_or(false, |place| place != due[mark]) {
                 let first = due[mark];
                 return Err(format!(
                     "mark {mark} is at {place:?}, its first follower at {first}"
