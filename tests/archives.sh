@@ -5,34 +5,8 @@
 set -eu
 cd "$(dirname "$0")/.."
 mkdir -p target/staticlib
-
-kit=$(dirname "$(dirname "$(rt doc)")")
-own=$kit/on/$(uname -m)
-
-# A kit without that compiler proves them all the same.
-if [ -z "${UNPROVED-}" ] || [ ! -x "$own/bin/rattle-cases" ]; then
-    for name in "$@"; do rt staticlib "$name"; done
-    exit
-fi
-
-# The crates that a crate needs, and those that these need.
-reached_by() {
-    todo=$1 seen=''
-    while [ -n "$todo" ]; do
-        next=''
-        for crate in $todo; do
-            case " $seen " in *" $crate "*) continue ;; esac
-            seen="$seen $crate"
-            next="$next $(sed -n "s/^$crate:\([^#]*\).*/\1/p" crates.txt)"
-        done
-        todo=$(echo $next)
-    done
-    echo "${seen# "$1"}"
-}
+. tests/unproved.sh
 
 for name in "$@"; do
-    set -- --lib "std=$kit/libs/std/src/lib.rt"
-    for crate in $(reached_by "$name"); do set -- "$@" --lib "$crate=crates/$crate/src/lib.rt"; done
-    "$own/bin/rattle-cases" --toolchain "${COMPILER_DIR:-$own/toolchain}" --staticlib "target/staticlib/lib$name.a" "crates/$name/src/lib.rt" --crate-name "$name" "$@"
-    echo "compiled $name, with nothing proved"
+    if proves; then rt staticlib "$name"; else compile "$name" "crates/$name/src/lib.rt"; fi
 done

@@ -26,7 +26,7 @@ copy_sources() {
     rm -rf "$1"
     mkdir -p "$1/tests"
     cp crates.txt "$1/"
-    cp tests/archives.sh "$1/tests/"
+    cp tests/archives.sh tests/unproved.sh "$1/tests/"
     for crate in crates/*/; do
         mkdir -p "$1/$crate"
         cp -r "${crate}src" "$1/$crate"
