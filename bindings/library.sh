@@ -1,18 +1,8 @@
 #!/bin/sh
-# library.sh   writes target/staticlib/libwolamivens.a, every call of a note for C and Rust to link, proved first.
-# UNPROVED=yes  compiles the sources with nothing proved (tests/archives.sh)
-# AR=PROGRAM    the archiver, if it is not ar
+# library.sh   writes target/staticlib/libwolamivens.a, every call of a note for C and Rust on x86-64 to link, proved first.
 set -eu
 cd "$(dirname "$0")/.."
-tests/archives.sh note_c edits_c
-
-# An archiver's script adds each library's members as they are, those of equal names too.
-cd target/staticlib
-"${AR-ar}" -M <<END
-create libwolamivens.a
-addlib libnote_c.a
-addlib libedits_c.a
-save
-end
-END
+. tests/build.sh
+for crate in note_c edits_c; do rt staticlib "$crate"; done
+join target/staticlib
 echo "target/staticlib/libwolamivens.a has every call of a note"

@@ -3,15 +3,10 @@
 #   no word: every comparison (some minutes). --short: some seconds. --edits: the edits and marks of a note alone. --record FILE: writes a
 #   sample of the source's answers on texts and leaves. --record-lists FILE: one of its answers on child lists.
 # ORACLE=FOLDER      the source crate's folder (oracle.sh)
-# TEXT_C_DIR=FOLDER  link the libtext_c.a, libleaf_c.a, liblist_c.a, libnote_c.a and libedits_c.a there instead of building them (archives.sh)
+# TEXT_C_DIR=FOLDER  link the libtext_c.a, libleaf_c.a, liblist_c.a, libnote_c.a and libedits_c.a there instead of building them
+# UNPROVED=yes       compiles these with nothing proved, in seconds: for the gate, which proves the same sources next
 set -eu
 root=$(cd "$(dirname "$0")/.." && pwd)
-. "$root/tests/host.sh"
-
-why=$("$root/tests/oracle.sh") || {
-    [ -n "$why" ] || exit 1
-    skip "$why"
-}
 
 # What the caller named is meant from the caller's folder.
 [ -z "${TEXT_C_DIR-}" ] || TEXT_C_DIR=$(cd "$TEXT_C_DIR" && pwd)
@@ -23,16 +18,21 @@ if [ $# -eq 2 ]; then
 fi
 
 cd "$root"
+. tests/build.sh
+why=$(tests/oracle.sh) || {
+    [ -n "$why" ] || exit 1
+    skip "$why"
+}
 if [ -z "${TEXT_C_DIR-}" ]; then
-    tests/archives.sh text_c leaf_c list_c note_c edits_c
-    TEXT_C_DIR=$root/target/staticlib
+    archive text_c leaf_c list_c note_c edits_c
+    TEXT_C_DIR=$root/$archives
 fi
 export TEXT_C_DIR
 
 # The source crate's warnings go to the log; they are not ours to mend.
-CARGO_TARGET_DIR=target/compare "$cargo" build --quiet --release --offline ${other:+--target $other} \
-    --config target/oracle/.cargo/config.toml --manifest-path tests/compare/Cargo.toml 2>target/compare.log || {
+CARGO_TARGET_DIR=target/compare cargo build --quiet --release --offline --config target/oracle/.cargo/config.toml \
+    --manifest-path tests/compare/Cargo.toml 2>target/compare.log || {
     cat target/compare.log >&2
     exit 1
 }
-exec $runner target/compare/${other:+$other/}release/compare "$@"
+exec target/compare/release/compare "$@"

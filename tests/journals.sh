@@ -6,17 +6,15 @@
 # UNPROVED=yes   compiles the program with nothing proved: for the gate, which proves the same sources next
 set -eu
 root=$(cd "$(dirname "$0")/.." && pwd)
-. "$root/tests/host.sh"
-
-why=$("$root/tests/oracle.sh") || {
-    [ -n "$why" ] || exit 1
-    skip "$why"
-}
 [ -z "${RECORDER-}" ] || RECORDER=$(cd "$(dirname "$RECORDER")" && pwd)/$(basename "$RECORDER")
 
 cd "$root"
-mkdir -p target/staticlib target/journals
-. tests/unproved.sh
+. tests/build.sh
+why=$(tests/oracle.sh) || {
+    [ -n "$why" ] || exit 1
+    skip "$why"
+}
+mkdir -p target/journals
 
 # The compiler without proofs makes libraries alone: the program's `main` becomes the one call of a library, and a C program makes it.
 unproved_program() {
@@ -26,27 +24,27 @@ unproved_program() {
     sed 's/^fn main() {/#[no_mangle]\npub extern "C" fn wol_recorder() {/' crates/recorder/src/main.rt >target/journals/src/lib.rt
     compile recorder target/journals/src/lib.rt
     echo 'void wol_recorder(void); int main(void) { wol_recorder(); return 0; }' |
-        ${other:+x86_64-linux-gnu-}gcc ${other:+-static} -o target/journals/recorder -x c - -x none target/staticlib/librecorder.a
+        gcc -o target/journals/recorder -x c - -x none "$archives/librecorder.a"
 }
 
-if [ -n "${RECORDER-}" ]; then
-    program=$RECORDER
-elif proves; then
-    rt check recorder
-    program=target/bin/recorder
-else
-    unproved_program
-    program=target/journals/recorder
-fi
-
 # The crate notes links these two. None of their calls is asked here, so that any will do.
-[ -f target/staticlib/libnote_c.a ] && [ -f target/staticlib/libedits_c.a ] || tests/archives.sh note_c edits_c
-export TEXT_C_DIR=$root/target/staticlib
+[ -f "$archives/libnote_c.a" ] && [ -f "$archives/libedits_c.a" ] || archive note_c edits_c
+export TEXT_C_DIR=$root/$archives
 
 # Beside the comparison's, as both build the source crate. Its warnings go to the log; they are not ours to mend.
-CARGO_TARGET_DIR=target/compare "$cargo" build --quiet --release --offline ${other:+--target $other} \
-    --config target/oracle/.cargo/config.toml --manifest-path tests/journals/Cargo.toml 2>target/journals.log || {
+CARGO_TARGET_DIR=target/compare cargo build --quiet --release --offline --config target/oracle/.cargo/config.toml \
+    --manifest-path tests/journals/Cargo.toml 2>target/journals.log || {
     cat target/journals.log >&2
     exit 1
 }
-exec $runner target/compare/${other:+$other/}release/journals "$@" -- $runner "$program"
+
+if [ -n "${RECORDER-}" ]; then
+    set -- "$@" -- "$RECORDER"
+elif proves; then
+    rt check recorder
+    set -- "$@" -- $runner target/bin/recorder
+else
+    unproved_program
+    set -- "$@" -- target/journals/recorder
+fi
+exec target/compare/release/journals "$@"
