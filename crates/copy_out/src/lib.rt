@@ -4,7 +4,7 @@ use answer::Refusal;
 use leaf_parts::byte_of;
 use leaf_parts::chars_of;
 use leaf_parts::from_byte;
-use leaf_parts::own_part;
+use note_head::own_part;
 ghost use mathlib.Core.Path.{_≡_};
 ghost use mathlib.Core.Bool.{true};
 ghost use mathlib.Core.List.{[], _∷_};

@@ -8,6 +8,7 @@ use lib.IntN.{ℤ}
 use lib.ListN.{length, drop}
 use Rattle.plain.specs.Place.{Measure}
 use Rattle.plain.specs.Outcome.{Outcome, Outcome.value, Outcome.refused, mapped}
+use Rattle.plain.proofs.Outcome.{clash}
 use Rattle.plain_note.specs.Note.{Note, need, mostBy, converted, copied, readFrom, previewed, opened}
 use Rattle.plain_calls.specs.Marks.{standing, lineBeside}
 use Rattle.plain_calls.specs.Calls.{Call, Call.insert, Call.remove, Call.setMark, Call.dropMark, Call.look, Look, Look.total, Look.slots, Look.edits, Look.convert, Look.copy, Look.read, Look.preview, Look.place, Look.line, Said, Said.done, Said.is, Said.by, Said.bytes, inserting, removing, setting, dropping, looking, said, called}
@@ -21,9 +22,6 @@ use Rattle.opening.specs.Opened.{opens}
 use Rattle.opening.proofs.Opened.{accepted-opened}
 use Rattle.note_promise.specs.Called.{Left, Called, EditCalled, MarkCalled}
 use Rattle.demands.specs.Steps.{Step}
-
-clash : {A X : Type 0} (q : ℕ) (a : A) → refused q ≡ value a → X
-clash q a e = absurd (let z : _≡_ {A = ℕ} 0 1 = cc in omega arith)
 
 -- ── calls that may change the note ──
 

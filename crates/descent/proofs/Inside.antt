@@ -9,7 +9,8 @@ use Rattle.plain.specs.Outcome.{Outcome, Outcome.value, Outcome.refused, mapped
 use Rattle.text_info.specs.declared.TextSum.{TextSum}
 use Rattle.text_info.specs.Info.{zeros}
 use Rattle.child_search.specs.declared.Measure.the-variants.{CharEnds}
-use Rattle.tree_search.specs.Search.{plusSum, branchAt, below, leafAt}
+use Rattle.tree.specs.Tree.{plusSum}
+use Rattle.tree_search.specs.Search.{branchAt, below, leafAt}
 use Rattle.leaf_parts.specs.Parts.{leafText, byteIn}
 use Rattle.edits.specs.Made.{Made}
 use Rattle.edits.specs.Acts.{Act, reading}

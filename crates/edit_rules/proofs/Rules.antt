@@ -1,17 +1,17 @@
--- What refuses an edit, rule by rule from what the calls below answered; and what an accepted edit says of the note and of what it was given.
-use mathlib.Core.Path.{_≡_, refl, sym, ap, _∙_}
-use mathlib.Core.Bool.{Bool, true, false, not, _||_, cond, true≢false}
+-- What refuses an edit, rule by rule from what the calls below answered.
+use mathlib.Core.Path.{_≡_, sym, ap, _∙_}
+use mathlib.Core.Bool.{true, false, not, _||_}
 use mathlib.Core.List.{List, [], _∷_}
 use Prim.Native.Nat.{ℕ, _+_, _≤_, _<_}
 use native.Mathlib.Omega.{arith}
 use lib.Dec.{ltb}
 use lib.ListN.{length}
-use borrow.Author.Tests.{lt-ltb, le-ltb, ltb-false, not-false}
+use borrow.Author.Tests.{lt-ltb, le-ltb}
 use Rattle.plain.specs.Utf8.{validUtf8}
 use Rattle.plain.specs.Place.{bytes}
-use Rattle.plain.specs.Outcome.{Outcome, Outcome.value, Outcome.refused, Rule, ruled, past}
+use Rattle.plain.specs.Outcome.{Outcome.value, Outcome.refused, Rule, ruled, past}
 use Rattle.plain.proofs.Logic.{or-left, or-right, or-none}
-use Rattle.plain.proofs.Outcome.{rule-applies, rule-passed, one-applies, one-passed, accepted}
+use Rattle.plain.proofs.Outcome.{rule-applies, rule-passed, one-applies, one-passed}
 use Rattle.plain_note.specs.Note.{Note, limit, insertRules}
 use Rattle.plain_note.specs.Edits.{removeRules}
 use Rattle.note_head.specs.Head.{nOf, rootOf}
@@ -99,44 +99,3 @@ module _ (m : List ℕ) (s e : ℕ) where
           sym (note-called m (λ N. ruled (removeRules N s e) (tt {0})) ok
           ∙ one-passed 3 (past s e || past e (length (noteOf m .text))) (tt {0})
           (or-none (past s e) (past e (length (noteOf m .text))) (le-ltb e s h) (le-ltb (length (noteOf m .text)) e (omega (arith, chars-are m ok k stored)))))
-
--- ── what an accepted call says ──
-
--- THEOREM: a call that is accepted had a well-formed memory, and is accepted on its note.
-pub note-accepted : {A : Type 0} (m : List ℕ) (f : Note → Outcome A) (a : A) → ofNote m f ≡ value a → (wellFormed m ≡ true) × (f (noteOf m) ≡ value a)
-unfolding ofNote
-note-accepted {A} m f a e = go (wellFormed m) refl e
-  where
-    go : (t : Bool) → wellFormed m ≡ t → cond t (f (noteOf m)) (refused 2) ≡ value a → (wellFormed m ≡ true) × (f (noteOf m) ≡ value a)
-    go true w g = (w, g)
-    go false w g = absurd (let z : _≡_ {A = ℕ} 0 1 = cc in omega arith)
-
--- an insertion of a piece at p into a note
-pub record Inserts (N : Note) (p : ℕ) (piece : List ℕ) : Type 0 where
-  pub here : p ≤ length (N .text)
-  pub short : length piece ≤ 256
-  pub valid : validUtf8 piece ≡ true
-  pub room : bytes (N .text) + length piece ≤ limit (N .n)
-
--- THEOREM: an insertion that is accepted.
-pub insert-says : {A : Type 0} (N : Note) (p : ℕ) (piece : List ℕ) (x a : A) → ruled (insertRules N p piece) x ≡ value a → Inserts N p piece
-insert-says N p piece x a e =
-    let r3 = accepted 3 (past p (length (N .text))) _ x a e in
-    let r4 = accepted 4 (past (length piece) 256) _ x a (r3 .1) in
-    let r5 = accepted 5 (not (validUtf8 piece)) _ x a (r4 .1) in
-    let r6 = accepted 6 (past (bytes (N .text) + length piece) (limit (N .n))) [] x a (r5 .1) in
-    record {
-      here = ltb-false (length (N .text)) p (r3 .0);
-      short = ltb-false 256 (length piece) (r4 .0);
-      valid = not-false _ (r5 .0);
-      room = ltb-false (limit (N .n)) (bytes (N .text) + length piece) (r6 .0);
-    }
-
--- THEOREM: a removal that is accepted.
-pub remove-says : {A : Type 0} (N : Note) (s e : ℕ) (x a : A) → ruled (removeRules N s e) x ≡ value a → (s ≤ e) × (e ≤ length (N .text))
-remove-says N s e x a f = neither (past s e) (past e (length (N .text))) refl refl (accepted 3 (past s e || past e (length (N .text))) [] x a f .0)
-  where
-    neither : (t u : Bool) → past s e ≡ t → past e (length (N .text)) ≡ u → (t || u) ≡ false → (s ≤ e) × (e ≤ length (N .text))
-    neither true u g h k = absurd (true≢false k)
-    neither false true g h k = absurd (true≢false k)
-    neither false false g h k = (ltb-false e s g, ltb-false (length (N .text)) e h)

@@ -11,7 +11,7 @@ use Rattle.plain.specs.Count.{lines}
 use Rattle.plain.specs.Place.{bytes}
 use Rattle.plain.specs.Edit.{putIn, cutOut}
 use Rattle.plain.specs.Outcome.{Outcome, Outcome.value, Outcome.refused, Rule, ruled, mapped}
-use Rattle.plain.proofs.Outcome.{Known, known}
+use Rattle.plain.proofs.Outcome.{Known, known, clash}
 use Rattle.plain.proofs.Utf8.{valid-sound}
 use Rattle.plain_note.specs.Note.{Note, need, insertRules}
 use Rattle.plain_note.specs.Edits.{removeRules, inserted, removed}
@@ -20,8 +20,8 @@ use Rattle.answer.specs.declared.Refusal.{Refusal}
 use Rattle.note_head.specs.Head.{nOf, rootOf, ownOf}
 use Rattle.note_head.proofs.Own.{own-n}
 use Rattle.memory.specs.Formed.{wellFormed, noteOf, ofNote}
-use Rattle.memory.proofs.Formed.{formed, note-called, note-refused}
-use Rattle.edit_rules.proofs.Rules.{note-accepted, insert-says, remove-says}
+use Rattle.memory.proofs.Formed.{formed, note-called, note-refused, note-accepted}
+use Rattle.plain_note.proofs.Edits.{insert-says, remove-says}
 use Rattle.line_change.specs.Change.{minus}
 use Rattle.line_change.specs.declared.Change.{Change}
 use Rattle.line_change.specs.declared.Change.the-variants as Change·case
@@ -39,9 +39,6 @@ module _ {A B : Type 0} (f : A → B) where
 
   mapped-refused : (o : Outcome A) (q : ℕ) → o ≡ refused q → mapped f o ≡ refused q
   mapped-refused o q e = ap (mapped f) e
-
-clash : {A X : Type 0} (q : ℕ) (a : A) → refused q ≡ value a → X
-clash q a e = absurd (let z : _≡_ {A = ℕ} 0 1 = cc in omega arith)
 
 -- a refusal has its number whatever the call would answer
 renumbered : {A B : Type 0} (p q : ℕ) → _≡_ {A = Outcome A} (refused p) (refused q) → _≡_ {A = Outcome B} (refused p) (refused q)
@@ -111,17 +108,13 @@ module _ {A : Type 0} (rules : Note → List Rule) (text : Note → A) (m : List
 
 -- ── the two edits ──
 
--- the part that is lent to the steps, by the slots that the head says
-module _ (m : List ℕ) (k : ℕ) (slots : k ≡ nOf m) where
-  pub own-part : take (640 * k + 6144) m ≡ ownOf m
-  unfolding ownOf
-  own-part = ap (λ (n : ℕ). take (640 * n + 6144) m) slots
+-- the part that is lent to the steps, by the need that the head says
+module _ (m : List ℕ) (end : ℕ) (is : end ≡ need (nOf m)) where
+  pub rest-part : (later : List ℕ) → later ++ drop end m ≡ later ++ drop (need (nOf m)) m
+  rest-part later = ap (λ (n : ℕ). later ++ drop n m) is
 
-  pub rest-part : (later : List ℕ) → later ++ drop (640 * k + 6144) m ≡ later ++ drop (need (nOf m)) m
-  rest-part later = ap (λ (n : ℕ). later ++ drop (640 * n + 6144) m) slots
-
-  pub own-room : wellFormed m ≡ true → 640 * k + 6144 ≤ length m
-  own-room ok = omega (arith, formed m ok .room, slots)
+  pub own-room : wellFormed m ≡ true → end ≤ length m
+  own-room ok = omega (arith, formed m ok .room, is)
 
 -- where the note's part is as it was, all is
 back : (m later after : List ℕ) → after ≡ later ++ drop (need (nOf m)) m → later ≡ ownOf m → after ≡ m
@@ -192,7 +185,9 @@ module _ (m : List ℕ) (s e : ℕ) where
     comes-to = rules-passed (λ N. removeRules N s e) (λ N. cutOut s e (N .text)) m fine .1
 
     places : (s ≤ e) × (e ≤ length (noteOf m .text))
-    places = remove-says (noteOf m) s e (tt {0}) (tt {0}) (note-accepted m (λ N. ruled (removeRules N s e) (tt {0})) (tt {0}) (sym fine) .1)
+    places =
+        let r = remove-says (noteOf m) s e (tt {0}) (tt {0}) (note-accepted m (λ N. ruled (removeRules N s e) (tt {0})) (tt {0}) (sym fine) .1) in
+        (r .rise, r .here)
 
     -- what the steps ask is there
     pub remove-removes : Removes (ownOf m) s e

@@ -1,6 +1,16 @@
 // The head of the lent memory, written. Each function is total: memory shorter than its head is refused by 2, and then no byte changes.
 use answer::Refusal;
 use answer::Verdict;
+use note_head::EDIT_AT;
+use note_head::FREE_AT;
+use note_head::HEIGHT_AT;
+use note_head::MARKS;
+use note_head::MARKS_AT;
+use note_head::MARK_BYTES;
+use note_head::PLACES_AT;
+use note_head::ROOT_AT;
+use note_head::SLOTS_AT;
+use pool::HEAD_BYTES;
 use pool::Kid;
 ghost use mathlib.Core.Path.{_≡_};
 ghost use Prim.Native.Nat.{_+_, _≤_};
@@ -10,28 +20,6 @@ ghost use Rattle.pool.specs.Big.{bytesOf4};
 ghost use Rattle.pool.specs.Slot.{kidBytes, Fits};
 ghost use Rattle.pool.specs.Calls.{Wrote};
 ghost use Rattle.head_write.specs.Writes.{numberSet, rootSet, heightSet, liveSet, placeSet};
-
-const HEAD_BYTES: usize = 6144;
-
-// Where the numbers of the head lie.
-const SLOTS_AT: usize = 0;
-
-const EDIT_AT: usize = 4;
-
-const ROOT_AT: usize = 8;
-
-const HEIGHT_AT: usize = 28;
-
-const FREE_AT: usize = 32;
-
-// The marks, 16 bytes each: whether it is live, and from the fifth byte on its place.
-const MARKS: usize = 256;
-
-const MARKS_AT: usize = 2048;
-
-const PLACES_AT: usize = 2052;
-
-const MARK_BYTES: usize = 16;
 
 // A number of four bytes, the most significant first.
 fn put_number(m: &mut [u8], at: usize, v: u32)

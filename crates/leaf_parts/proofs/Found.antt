@@ -99,14 +99,3 @@ bounded-most h (Spot·case.At leaf left) k w =
     up : (l x : ℕ) → l ≤ 16 * 255 → x ≤ l * 4294967295 → x ≤ 16 * 255 * 4294967295
     up l x i j = omega arith
 bounded-most h (Spot·case.Refused q) k w = tt
-
--- ── the note's own part ──
-
-module _ (m : List ℕ) (n : ℕ) (is : n ≡ nOf m) where
-  pub own-all : length m < need n → m ≡ ownOf m
-  unfolding ownOf
-  own-all h = sym (take-all (need (nOf m)) m (omega arith))
-
-  pub own-front : take (need n) m ≡ ownOf m
-  unfolding ownOf
-  own-front = ap (λ (k : ℕ). take (need k) m) is

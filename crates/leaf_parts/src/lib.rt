@@ -4,7 +4,6 @@ use answer::Number;
 use child_search::Measure;
 use note_head::height;
 use note_head::root;
-use note_head::slots;
 use pool::Head;
 use pool::head_of;
 use pool::region_start;
@@ -17,22 +16,6 @@ ghost use Rattle.answer.specs.Answers.{number};
 ghost use Rattle.note_head.specs.Head.{rootOf, ownOf};
 ghost use Rattle.tree_search.specs.Search.{spot, Bounded};
 ghost use Rattle.leaf_parts.specs.Parts.{leafText, byteIn, spotOf, fromChar, fromByte, byteOf};
-
-// The bytes of the memory's head, and of a slot.
-const HEAD_BYTES: usize = 6144;
-
-const SLOT_BYTES: usize = 640;
-
-// The part of the memory that the note has.
-pub fn own_part(m: &[u8]) -> &[u8]
-    ensures { λ r. ⌜ now r ≡ ownOf (now (m .entry)) ⌝ }
-{
-    let end = SLOT_BYTES * slots(m) + HEAD_BYTES;
-    if m.len() < end {
-        return m;
-    }
-    &m[..end]
-}
 
 fn wide(x: u32) -> usize
     ensures { λ r. ⌜ (r ≡ x) × (r < 4294967296) ⌝ }

@@ -10,6 +10,7 @@ use leaf_bytes::MAX_BYTES;
 use leaf_nodes::halve_leaf;
 use leaf_nodes::replace_leaf;
 use leaf_parts::text_at;
+use nodes::MIN_BYTES;
 use note_head::first_free;
 use pool::Head;
 use pool::head_of;
@@ -23,9 +24,6 @@ ghost use Rattle.text_info.specs.Info.{rawInfo};
 ghost use Rattle.nodes.specs.Node.{isLeaf, textOf};
 ghost use Rattle.edits.specs.Made.{edit, sized, Stepped};
 ghost use Rattle.leaf_step.specs.Steps.{leafFit, leafHalves, leafSplit, leafStepped};
-
-// The least size of a leaf that is not the root.
-const LEAST: usize = 128;
 
 // The counts of a leaf's bytes.
 fn info_of(m: &[u8], slot: usize) -> TextInfo
@@ -49,7 +47,7 @@ fn one_leaf(m: &[u8], slot: usize, len: usize) -> Edit
     ensures { λ r. ⌜ edit r ≡ value (sized 128 len (rawInfo (textOf (now (m .entry)) slot))) ⌝ }
 {
     let info = info_of(m, slot);
-    if len < LEAST {
+    if len < MIN_BYTES {
         return Edit::Small(info);
     }
     Edit::Same(info)

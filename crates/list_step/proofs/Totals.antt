@@ -23,11 +23,11 @@ use Rattle.pool.specs.Slot.{slotStart, noKid, Fits}
 use Rattle.child_search.specs.Sought.{plusInfo, sumFrom}
 use Rattle.nodes.specs.Node.{tooWide, narrowed, totalOf}
 use Rattle.nodes.proofs.Heads.{leaf-says, list-says}
-use Rattle.tree.specs.Tree.{joinOver, every, seamless, sumOf, tells, toldRight, leastAt, sound}
+use Rattle.tree.specs.Tree.{joinOver, every, seamless, sumOf, tells, toldRight, leastAt, sound, plusSum}
 use Rattle.tree.specs.Kids.{below, fine}
 use Rattle.tree.proofs.Lists.{join-none, join-cons, join-at, every-head, every-tail, every-at}
 use Rattle.tree.proofs.Seams.{lf-none, lf-append, seam-right}
-use Rattle.tree.proofs.Counts.{plusSum, sum-is, sum-nil, counts-add, bytes-valid, breaks-valid}
+use Rattle.tree.proofs.Counts.{sum-is, sum-nil, counts-add, bytes-valid, breaks-valid}
 use Rattle.tree.proofs.Sound.{child-sound, join-valid, valid-below, filled-below, leaf-sound, list-sound}
 
 -- ── counts told ──

@@ -8,6 +8,7 @@ use edits::Edit;
 use node_children::Listed;
 use node_children::MAX_LEN;
 use node_children::NodeChildren;
+use nodes::MIN_LEN;
 use nodes::list_info;
 use nodes::load;
 use nodes::narrow;
@@ -17,6 +18,7 @@ use pool::Kid;
 use pool::head_of;
 use pool::info_of;
 use pool::set_info;
+use slots::LAST_SLOT;
 use slots::take_slot;
 use text_info::Info;
 use text_info::TextInfo;
@@ -33,12 +35,6 @@ ghost use Rattle.nodes.specs.Node.{isList, childrenOf, totalOf};
 ghost use Rattle.edits.specs.Made.{Stepped};
 ghost use Rattle.became.specs.Grown.{kid};
 ghost use Rattle.list_step.specs.Steps.{recount, recounted, keeping, laying, parting, adding, onePut, twoPut};
-
-// The fewest children that a list should have which is not the root.
-const MIN_LEN: usize = 4;
-
-// The last slot that 32 bits name.
-const LAST_SLOT: usize = 4294967295;
 
 // The child at an index gets other counts.
 fn recount(list: NodeChildren, idx: usize, info: TextInfo) -> NodeChildren

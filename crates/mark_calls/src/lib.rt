@@ -8,6 +8,7 @@ use leaf_parts::chars_of;
 use marks::lowest_free;
 use marks::set_at;
 use marks::standing_at;
+use note_head::MARKS;
 ghost use mathlib.Core.Path.{_≡_};
 ghost use Rattle.answer.specs.Answers.{number, verdict};
 ghost use Rattle.plain_calls.specs.Marks.{standing, lineBeside};
@@ -16,8 +17,6 @@ ghost use Rattle.head_write.specs.Writes.{livePut};
 ghost use Rattle.memory.specs.Formed.{ofNote};
 ghost use Rattle.marks.specs.MarkBytes.{markPut};
 ghost use Rattle.note_promise.specs.Called.{MarkCalled};
-
-const MARKS: usize = 256;
 
 // A mark at a place: it takes the lowest free number.
 pub fn set_mark(m: &mut [u8], p: usize) -> Number

@@ -6,9 +6,13 @@ use answer::Verdict;
 use head_write::set_edit_number;
 use head_write::set_mark_live;
 use head_write::set_mark_place;
+use note_head::MARKS;
+use note_head::MARKS_AT;
+use note_head::MARK_BYTES;
 use note_head::edit_number;
 use note_head::mark_live;
 use note_head::mark_place;
+use pool::HEAD_BYTES;
 ghost use mathlib.Core.Path.{_≡_};
 ghost use Prim.Native.Nat.{_+_, _≤_, _<_};
 ghost use lib.ListN.{length};
@@ -17,15 +21,6 @@ ghost use Rattle.plain_calls.specs.Marks.{lowest, movedTo};
 ghost use Rattle.pool.specs.Calls.{Wrote};
 ghost use Rattle.note_head.specs.Head.{liveAt, marksFrom};
 ghost use Rattle.marks.specs.MarkBytes.{standingIn, markSet, markMoved, liveBytes, runMoved, marksMoved, edited};
-
-const HEAD_BYTES: usize = 6144;
-
-// The marks, 16 bytes each, of which the first says whether it is live.
-const MARKS: usize = 256;
-
-const MARKS_AT: usize = 2048;
-
-const MARK_BYTES: usize = 16;
 
 // An edit looks at all marks, so many at once.
 const RUN: usize = 8;

@@ -8,8 +8,9 @@ use lib.Dec.{eqb, leb}
 use lib.ListN.{length}
 use borrow.Author.Tests.{leb-true, le-leb, eqb-true, eq-eqb}
 use Rattle.plain.specs.Utf8.{validUtf8, decode}
-use Rattle.plain.specs.Outcome.{Outcome, Outcome.refused}
+use Rattle.plain.specs.Outcome.{Outcome, Outcome.value, Outcome.refused}
 use Rattle.plain.proofs.Logic.{and-left, and-right, or-left, or-right}
+use Rattle.plain.proofs.Outcome.{clash}
 use Rattle.plain_note.specs.Note.{Note, need, limit}
 use Rattle.tree.specs.Tree.{sound, leastRoot, toldRight}
 use Rattle.tree.proofs.Lists.{both}
@@ -136,3 +137,12 @@ module _ {A : Type 0} (m : List ℕ) (f : Note → Outcome A) where
   pub note-called : wellFormed m ≡ true → ofNote m f ≡ f (noteOf m)
   unfolding ofNote
   note-called e = ap (λ (t : Bool). cond t (f (noteOf m)) (refused 2)) e
+
+  -- THEOREM: a call that is accepted had a well-formed memory, and is accepted on its note.
+  pub note-accepted : (a : A) → ofNote m f ≡ value a → (wellFormed m ≡ true) × (f (noteOf m) ≡ value a)
+  unfolding ofNote
+  note-accepted a e = go (wellFormed m) refl e
+    where
+      go : (t : Bool) → wellFormed m ≡ t → cond t (f (noteOf m)) (refused 2) ≡ value a → (wellFormed m ≡ true) × (f (noteOf m) ≡ value a)
+      go true w g = (w, g)
+      go false w g = clash 2 a g

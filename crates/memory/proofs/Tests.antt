@@ -1,4 +1,4 @@
--- The tests of the check's small parts: the least size of a root, stored counts, a mark, and the head as a whole.
+-- The tests of the check's small parts: the least size of a root, a mark, and the head as a whole.
 use mathlib.Core.Path.{_≡_, refl, sym, ap, subst, _∙_}
 use mathlib.Core.Bool.{Bool, true, false}
 use mathlib.Core.List.{List}
@@ -7,7 +7,6 @@ use native.Mathlib.Omega.{arith}
 use lib.Dec.{eqb, leb}
 use borrow.Author.Tests.{eq-eqb, ne-eqb, lt-leb, le-leb}
 use Rattle.plain_note.specs.Note.{limit}
-use Rattle.text_info.specs.declared.TextInfo.{TextInfo}
 use Rattle.text_info.specs.declared.TextSum.{TextSum}
 use Rattle.pool.specs.declared.Kid.{Kid}
 use Rattle.tree.specs.Tree.{leastRoot, tells}
@@ -26,23 +25,6 @@ pub least-list : (h : ℕ) → (h ≡ 0 → ⊥) → 2 ≡ leastRoot h
 unfolding leastRoot
 least-list zero f = absurd (f refl)
 least-list (suc h) f = refl
-
--- ── stored counts ──
-
-module _ (i : TextInfo) (s : TextSum) where
-  pub bytes-wrong : (i .bytes ≡ s .bytes → ⊥) → false ≡ tells i s
-  bytes-wrong f = rw (ne-eqb (i .bytes) (s .bytes) f)
-
-  module _ (b : i .bytes ≡ s .bytes) where
-    pub chars-wrong : (i .chars ≡ s .chars → ⊥) → false ≡ tells i s
-    chars-wrong f = rw (eq-eqb (i .bytes) (s .bytes) b, ne-eqb (i .chars) (s .chars) f)
-
-    module _ (c : i .chars ≡ s .chars) where
-      pub pairs-wrong : (i .«utf16_surrogates» ≡ s .«utf16_surrogates» → ⊥) → false ≡ tells i s
-      pairs-wrong f = rw (eq-eqb (i .bytes) (s .bytes) b, eq-eqb (i .chars) (s .chars) c, ne-eqb (i .«utf16_surrogates») (s .«utf16_surrogates») f)
-
-      pub breaks-told : i .«utf16_surrogates» ≡ s .«utf16_surrogates» → eqb (i .«line_breaks») (s .«line_breaks») ≡ tells i s
-      breaks-told p = rw (eq-eqb (i .bytes) (s .bytes) b, eq-eqb (i .chars) (s .chars) c, eq-eqb (i .«utf16_surrogates») (s .«utf16_surrogates») p)
 
 -- ── a mark ──
 

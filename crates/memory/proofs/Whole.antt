@@ -6,11 +6,12 @@ use Prim.Native.Nat.{ℕ, _≤_, _<_}
 use native.Mathlib.Omega.{arith}
 use lib.Dec.{leb}
 use lib.ListN.{length, take}
+use lib.Seq.{length-take-le}
 use borrow.Author.Tests.{le-leb, lt-leb}
 use Rattle.plain.proofs.Logic.{and-none}
 use Rattle.plain_note.specs.Note.{need}
 use Rattle.note_head.specs.Head.{nOf, ownOf}
-use Rattle.note_head.proofs.Own.{own-n, own-length}
+use Rattle.note_head.proofs.Own.{own-n, own-front}
 use Rattle.memory.specs.Formed.{needMet, wellFormed}
 use Rattle.memory.specs.Checks.{ownRight, Ready}
 use Rattle.memory.proofs.Marks.{noneMet, zeros-length, zeros-none}
@@ -28,27 +29,24 @@ module _ (m : List ℕ) (n : ℕ) (is : n ≡ nOf m) where
   unfolding needMet
   many-slots h = unmet-need (ap (λ (t : Bool). leb 17 (nOf m) && (t && leb (need (nOf m)) (length m))) (lt-leb (nOf m) 4096 (omega arith)) ∙ and-none (leb 17 (nOf m)))
 
-  pub short-memory : length m < need n → false ≡ wellFormed m
-  unfolding needMet
-  short-memory h =
-      unmet-need (ap (λ (t : Bool). leb 17 (nOf m) && (leb (nOf m) 4096 && t)) (lt-leb (need (nOf m)) (length m) (omega arith)) ∙ ap (λ (t : Bool). leb 17 (nOf m) && t) (and-none (leb (nOf m) 4096)) ∙ and-none (leb 17 (nOf m)))
+  -- the part that is lent to the check, by the need that the head says
+  module _ (end : ℕ) (e : end ≡ need (nOf m)) where
+    pub short-memory : length m < end → false ≡ wellFormed m
+    unfolding needMet
+    short-memory h =
+        unmet-need (ap (λ (t : Bool). leb 17 (nOf m) && (leb (nOf m) 4096 && t)) (lt-leb (need (nOf m)) (length m) (omega arith)) ∙ ap (λ (t : Bool). leb 17 (nOf m) && t) (and-none (leb (nOf m) 4096)) ∙ and-none (leb 17 (nOf m)))
 
-  -- the part that is lent to the check
-  module _ (end : ℕ) (e : end ≡ need n) where
-    part-own : take end m ≡ ownOf m
-    unfolding ownOf
-    part-own = ap (λ (k : ℕ). take k m) (e ∙ ap need is)
-
-    pub part-slots : n ≡ nOf (take end m)
-    part-slots = is ∙ sym (own-n m) ∙ ap nOf (sym part-own)
-
-    pub part-length : need n ≤ length m → length (take end m) ≡ need n
-    part-length h = ap length part-own ∙ own-length m (omega arith) ∙ ap need (sym is)
-
-    pub whole-so : 17 ≤ n → n ≤ 4096 → need n ≤ length m → (r : Bool) → r ≡ ownRight (take end m) → r ≡ wellFormed m
+    pub whole-so : 17 ≤ n → n ≤ 4096 → end ≤ length m → (r : Bool) → r ≡ ownRight (take end m) → r ≡ wellFormed m
     unfolding wellFormed ownRight needMet
     whole-so l h k r q =
-        q ∙ ap ownRight part-own ∙ sym (rw (le-leb 17 (nOf m) (omega arith), le-leb (nOf m) 4096 (omega arith), le-leb (need (nOf m)) (length m) (omega arith)))
+        q ∙ ap ownRight (own-front m end e) ∙ sym (rw (le-leb 17 (nOf m) (omega arith), le-leb (nOf m) 4096 (omega arith), le-leb (need (nOf m)) (length m) (omega arith)))
+
+module _ (m : List ℕ) (end : ℕ) (e : end ≡ need (nOf m)) where
+  pub part-slots : nOf m ≡ nOf (take end m)
+  part-slots = sym (own-n m) ∙ ap nOf (sym (own-front m end e))
+
+  pub part-length : end ≤ length m → length (take end m) ≡ end
+  part-length h = length-take-le end m h
 
 -- fresh marks
 pub ready-zeros : (m : List ℕ) (n : ℕ) → n ≡ nOf m → 17 ≤ n → n ≤ 4096 → length m ≡ need n → Ready m (take n noneMet)

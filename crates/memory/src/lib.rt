@@ -1,15 +1,17 @@
 // The lent memory as a whole: whether it is well formed, which every call asks first. The check looks at each slot of the note once, and at
 // nothing beyond the note's need.
+use note_head::MARKS;
 use note_head::first_free;
 use note_head::mark_live;
 use note_head::mark_place;
+use note_head::need;
 use note_head::slots;
 use pool::Head;
 use pool::head_of;
-use text_info::TextInfo;
 use text_info::TextSum;
 use tree_check::Met;
 use tree_check::check_node;
+use tree_check::tells;
 ghost use mathlib.Core.Path.{_≡_};
 ghost use Prim.Native.Nat.{_≤_, _<_};
 ghost use lib.ListN.{length};
@@ -20,21 +22,14 @@ ghost use Rattle.memory.specs.Formed.{allBelow, wellFormed};
 ghost use Rattle.memory.specs.Checks.{ownRight, headRight, markRight, met, Stepped, Walked, Sorted, RootMet, Ready};
 
 // The least and the most slots of a note.
-const MIN_SLOTS: usize = 17;
+pub const MIN_SLOTS: usize = 17;
 
-const MAX_SLOTS: usize = 4096;
-
-// The bytes of the memory's head, and of a slot.
-const HEAD_BYTES: usize = 6144;
-
-const SLOT_BYTES: usize = 640;
+pub const MAX_SLOTS: usize = 4096;
 
 // Each slot but these adds to the bytes that the note may have.
 const SLOTS_HELD_BACK: usize = 16;
 
 const BYTES_PER_SLOT: usize = 64;
-
-const MARKS: usize = 256;
 
 // No tree of a note within its size is higher.
 const MAX_HEIGHT: u8 = 5;
@@ -149,28 +144,6 @@ fn least_root(height: u8) -> usize
     MIN_ROOT_CHILDREN
 }
 
-fn wide(x: u32) -> u64
-    ensures { λ r. ⌜ r ≡ x ⌝ }
-{
-    x as u64
-}
-
-// Whether stored counts are the counted ones.
-fn told(info: TextInfo, sum: TextSum) -> bool
-    ensures { λ r. ⌜ r ≡ tells info sum ⌝ }
-{
-    if wide(info.bytes) != sum.bytes {
-        return false;
-    }
-    if wide(info.chars) != sum.chars {
-        return false;
-    }
-    if wide(info.utf16_surrogates) != sum.utf16_surrogates {
-        return false;
-    }
-    wide(info.line_breaks) == sum.line_breaks
-}
-
 // The tree from the root on.
 fn check_root(m: &[u8], seen: &mut [u8]) -> Met
     ensures { λ r. ⌜ RootMet (now (m .entry)) (now (seen .entry)) (now (seen .exit)) r ⌝ }
@@ -181,7 +154,7 @@ fn check_root(m: &[u8], seen: &mut [u8]) -> Met
         m,
         seen,
         height,
-        wide(root.slot) as usize,
+        root.slot as usize,
         least_root(height),
     )
 }
@@ -194,7 +167,7 @@ fn head_right(m: &[u8], n: usize, sum: TextSum) -> bool
     ensures { λ r. ⌜ r ≡ headRight (now (m .entry)) n sum ⌝ }
 {
     let root = note_head::root(m);
-    if !told(root.info, sum) {
+    if !tells(root.info, sum) {
         return false;
     }
     let most = (BYTES_PER_SLOT * (n - SLOTS_HELD_BACK)) as u64;
@@ -241,7 +214,7 @@ pub fn check(m: &[u8]) -> bool
     if MAX_SLOTS < n {
         return false;
     }
-    let end = SLOT_BYTES * n + HEAD_BYTES;
+    let end = need(m);
     if m.len() < end {
         return false;
     }

@@ -7,6 +7,7 @@ use edits::Edit;
 use merge::merge_distribute;
 use node_children::Listed;
 use node_children::NodeChildren;
+use nodes::MIN_LEN;
 use nodes::load;
 use slots::give_slot;
 use text_info::TextInfo;
@@ -18,9 +19,6 @@ ghost use Rattle.node_children.specs.Kids.{kids, listOf, Listing};
 ghost use Rattle.child_info.specs.Kin.{slotIn};
 ghost use Rattle.edits.specs.Made.{edit, sized, Stepped};
 ghost use Rattle.mend_step.specs.Mended.{paired, closed, joining, mended};
-
-// The fewest children that a list should have which is not the root.
-const MIN_LEN: usize = 4;
 
 // The list in a slot: refused by 3 where it has no child behind the one at an index.
 fn paired(m: &[u8], slot: usize, idx: usize) -> Listed

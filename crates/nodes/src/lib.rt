@@ -37,6 +37,11 @@ ghost use Rattle.child_search.specs.Sought.{found, Small};
 ghost use Rattle.nodes.specs.Node.{kidsPut, tooWide, narrowed, Fitting};
 ghost use Rattle.nodes.specs.Calls.{loaded, listSearched, stored, Fitted, listCounted, counted};
 
+// The least size of a node that is not the root: a leaf's bytes, a list's children.
+pub const MIN_BYTES: usize = 128;
+
+pub const MIN_LEN: usize = 4;
+
 // A refused reading of a list: one without children.
 fn no_list(r: Refusal) -> Listed
     ensures { λ l. ⌜ Listing (refused (refusalNumber r)) (listOf []) l ⌝ }

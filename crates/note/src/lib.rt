@@ -36,6 +36,14 @@ pub use runs::preview_refusal;
 pub use runs::run;
 pub use runs::run_refusal;
 
+// ── a reader, which hands the note out run by run and checks the memory once ──
+
+pub use reader::Reader;
+pub use reader::behind;
+pub use reader::reader_at;
+pub use reader::reader_refusal;
+pub use reader::run_of;
+
 // ── marks ──
 
 pub use mark_calls::drop_mark;

@@ -21,11 +21,11 @@ use Rattle.pool.specs.declared.Kid.{Kid}
 use Rattle.child_search.specs.declared.Measure as Search
 use Rattle.child_search.specs.Sought.{stopsAt, mostOf, plusInfo}
 use Rattle.nodes.specs.Node.{textOf}
-use Rattle.tree.specs.Tree.{bytesBelow, sumOf, sound, leastRoot, toldRight}
+use Rattle.tree.specs.Tree.{bytesBelow, sumOf, sound, leastRoot, toldRight, plusSum}
 use Rattle.tree.proofs.Counts.{breaks-valid}
 use Rattle.tree_search.specs.declared.Spot.{Spot}
 use Rattle.tree_search.specs.declared.Spot.the-variants as Spot·case
-use Rattle.tree_search.specs.Search.{spot, countIn, plusSum, leafAt, PartedAt}
+use Rattle.tree_search.specs.Search.{spot, countIn, leafAt, PartedAt}
 use Rattle.tree_search.proofs.Nested.{told-by}
 use Rattle.tree_search.proofs.Parted.{Ends, ends, chars-parted}
 use Rattle.note_head.specs.Head.{rootOf, heightOf}

@@ -12,13 +12,13 @@ use Rattle.plain.specs.Place as Place
 use Rattle.plain.specs.Outcome.{Outcome, Outcome.value, Outcome.refused, past}
 use Rattle.plain.proofs.Logic.{and-left, and-right}
 use Rattle.plain.proofs.Outcome.{one-applies, one-passed}
-use Rattle.plain_note.specs.Note.{Note, need, placeBy, mostBy, converted}
+use Rattle.plain_note.specs.Note.{Note, placeBy, mostBy, converted}
 use Rattle.pool.specs.Slot.{slotStart, lenOf, regionOf}
 use Rattle.nodes.specs.Node.{textOf}
 use Rattle.nodes.proofs.Laid.{text-lent}
 use Rattle.note_head.specs.Head.{nOf, editOf, ownOf}
 use Rattle.note_head.proofs.Own.{own-n, own-edit}
-use Rattle.memory.proofs.Formed.{formed, note-refused, note-called}
+use Rattle.memory.proofs.Formed.{note-refused, note-called}
 use Rattle.memory.specs.Formed.{needMet, treeRight, wellFormed, noteOf, ofNote}
 
 -- ── a conversion ──
@@ -47,21 +47,12 @@ module _ (m : List ℕ) (t : Bool) (check : t ≡ wellFormed m) (yes : t ≡ tru
   well : wellFormed m ≡ true
   well = sym check ∙ yes
 
-  pub need-met : need (nOf m) ≤ length m
-  need-met = formed m well .room
-
   own-right : treeRight (ownOf m) ≡ true
   unfolding wellFormed
   own-right = and-left (treeRight (ownOf m)) _ (and-right (needMet m) _ well)
 
-  -- the part that is lent
-  module _ (n : ℕ) (size : n ≡ nOf m) where
-    pub own-lent : take (640 * n + 6144) m ≡ ownOf m
-    unfolding ownOf
-    own-lent = ap (λ (k : ℕ). take (need k) m) size
-
-    pub lent-right : treeRight (take (640 * n + 6144) m) ≡ true
-    lent-right = ap treeRight own-lent ∙ own-right
+  pub lent-right : (lent : List ℕ) → lent ≡ ownOf m → treeRight lent ≡ true
+  lent-right lent own = ap treeRight own ∙ own-right
 
 pub own-slots : (m : List ℕ) (n : ℕ) → n ≡ nOf m → n ≡ noteOf m .n
 own-slots m n e = e ∙ sym (own-n m)

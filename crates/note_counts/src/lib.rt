@@ -35,11 +35,6 @@ pub enum Count {
     Lines,
 }
 
-// The bytes of the memory's head, and of a slot.
-const HEAD_BYTES: usize = 6144;
-
-const SLOT_BYTES: usize = 640;
-
 // ── counts that are stored ──
 
 // A stored count as wide as an index.
@@ -145,8 +140,7 @@ pub fn convert(m: &[u8], from: Count, to: Count, idx: usize) -> Number
     if !memory::check(m) {
         return Number::Refused(Refusal::Memory);
     }
-    let end = SLOT_BYTES * note_head::slots(m) + HEAD_BYTES;
-    converted_in(&m[..end], from, to, idx)
+    converted_in(note_head::own_part(m), from, to, idx)
 }
 
 // A length of the note.
@@ -156,6 +150,5 @@ pub fn length_by(m: &[u8], by: Count) -> Number
     if !memory::check(m) {
         return Number::Refused(Refusal::Memory);
     }
-    let end = SLOT_BYTES * note_head::slots(m) + HEAD_BYTES;
-    Number::Is(most(&m[..end], by))
+    Number::Is(most(note_head::own_part(m), by))
 }

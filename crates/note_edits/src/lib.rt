@@ -7,8 +7,8 @@ use edit_rules::remove_refusal;
 use leaf_parts::from_char;
 use line_change::Change;
 use line_change::difference;
+use note_head::need;
 use note_head::root;
-use note_head::slots;
 use splices::put_in;
 use splices::splice_inside;
 use splices::take_out;
@@ -118,7 +118,7 @@ pub fn insert(m: &mut [u8], p: usize, piece: &[u8]) -> Change
         Verdict::Refused(r) => Change::Refused(r),
         Verdict::Accepted => {
             let before = breaks_of(m);
-            let end = 640 * slots(m) + 6144;
+            let end = need(m);
             insert_own(&mut m[..end], p, piece);
             Change::By(difference(before, breaks_of(m)))
         }
@@ -182,7 +182,7 @@ pub fn remove(m: &mut [u8], s: usize, e: usize) -> Change
         Verdict::Refused(r) => Change::Refused(r),
         Verdict::Accepted => {
             let before = breaks_of(m);
-            let end = 640 * slots(m) + 6144;
+            let end = need(m);
             remove_own(&mut m[..end], s, e);
             Change::By(difference(before, breaks_of(m)))
         }

@@ -1,10 +1,10 @@
 -- The note's own part of the memory, its need: how long it is, and that the head reads the same there.
-use mathlib.Core.Path.{_≡_, refl, ap, _∙_}
+use mathlib.Core.Path.{_≡_, refl, sym, ap, _∙_}
 use mathlib.Core.List.{List}
 use Prim.Native.Nat.{ℕ, zero, suc, _+_, _*_, _≤_, _<_}
 use native.Mathlib.Omega.{arith}
 use lib.ListN.{length, take}
-use lib.Seq.{getD-take, length-take-le}
+use lib.Seq.{getD-take, length-take-le, take-all}
 use Rattle.plain_note.specs.Note.{need}
 use Rattle.pool.specs.Big.{fourAt}
 use Rattle.pool.specs.Slot.{kidAt}
@@ -90,3 +90,13 @@ module _ (m : List ℕ) where
   pub own-length : need (nOf m) ≤ length m → length (ownOf m) ≡ need (nOf m)
   unfolding ownOf
   own-length h = length-take-le (need (nOf m)) m h
+
+  -- it is a front as long as the need, or all where that is not met
+  module _ (end : ℕ) (is : end ≡ need (nOf m)) where
+    pub own-front : take end m ≡ ownOf m
+    unfolding ownOf
+    own-front = ap (λ (k : ℕ). take k m) is
+
+    pub own-all : length m < end → m ≡ ownOf m
+    unfolding ownOf
+    own-all h = sym (take-all (need (nOf m)) m (omega arith))

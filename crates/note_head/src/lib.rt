@@ -1,28 +1,34 @@
 // The head of the lent memory, read, and numbers of two and four bytes anywhere. Each function is total on any bytes: a byte past the end counts as 0.
+use pool::HEAD_BYTES;
 use pool::Kid;
+use pool::SLOT_BYTES;
 use text_info::TextInfo;
 ghost use mathlib.Core.Path.{_≡_};
 ghost use Prim.Native.Nat.{_<_};
 ghost use lib.ListN.{getD};
+ghost use Rattle.plain_note.specs.Note as note;
 ghost use Rattle.pool.specs.Big.{twoAt, fourAt};
-ghost use Rattle.note_head.specs.Head.{nOf, editOf, rootOf, heightOf, freeOf, liveAt, placeAt};
+ghost use Rattle.note_head.specs.Head.{nOf, editOf, rootOf, heightOf, freeOf, liveAt, placeAt, ownOf};
 
-// Where the numbers of the head lie, and the marks, 16 bytes each.
-const SLOTS_AT: usize = 0;
+// Where the numbers of the head lie.
+pub const SLOTS_AT: usize = 0;
 
-const EDIT_AT: usize = 4;
+pub const EDIT_AT: usize = 4;
 
-const ROOT_AT: usize = 8;
+pub const ROOT_AT: usize = 8;
 
-const HEIGHT_AT: usize = 28;
+pub const HEIGHT_AT: usize = 28;
 
-const FREE_AT: usize = 32;
+pub const FREE_AT: usize = 32;
 
-const MARKS_AT: usize = 2048;
+// The marks, 16 bytes each: whether it is live, and from the fifth byte on its place.
+pub const MARKS: usize = 256;
 
-const PLACES_AT: usize = 2052;
+pub const MARKS_AT: usize = 2048;
 
-const MARK_BYTES: usize = 16;
+pub const PLACES_AT: usize = 2052;
+
+pub const MARK_BYTES: usize = 16;
 
 fn wide(x: u8) -> u32
     ensures { λ r. ⌜ (r ≡ x) × (r < 256) ⌝ }
@@ -67,6 +73,24 @@ pub fn slots(m: &[u8]) -> usize
     ensures { λ r. ⌜ (r ≡ nOf (now (m .entry))) × (r < 4294967296) ⌝ }
 {
     number_at(m, SLOTS_AT) as usize
+}
+
+// The bytes of memory that so many slots need.
+pub fn need(m: &[u8]) -> usize
+    ensures { λ r. ⌜ r ≡ note.need (nOf (now (m .entry))) ⌝ }
+{
+    SLOT_BYTES * slots(m) + HEAD_BYTES
+}
+
+// The part of the memory that the note has.
+pub fn own_part(m: &[u8]) -> &[u8]
+    ensures { λ r. ⌜ now r ≡ ownOf (now (m .entry)) ⌝ }
+{
+    let end = need(m);
+    if m.len() < end {
+        return m;
+    }
+    &m[..end]
 }
 
 pub fn edit_number(m: &[u8]) -> u32

@@ -19,7 +19,7 @@ use Rattle.plain.proofs.Text.{chars-encode}
 use Rattle.plain_note.specs.Note.{Note, insertRules}
 use Rattle.plain_note.specs.Edits.{removeRules, inserted, removed}
 use Rattle.plain_calls.specs.Calls.{edited, inserting, removing}
-use Rattle.plain_calls.proofs.Rules.{passed}
+use Rattle.plain.proofs.Outcome.{passed}
 use Rattle.plain_calls.proofs.Nothing.{edited-nothing, some-chars}
 use Rattle.answer.specs.Answers.{refusalNumber}
 use Rattle.answer.specs.declared.Refusal.{Refusal}
@@ -27,7 +27,7 @@ use Rattle.line_change.specs.Change.{change}
 use Rattle.line_change.specs.declared.Change.{Change}
 use Rattle.line_change.specs.declared.Change.the-variants as Change·case
 use Rattle.memory.specs.Formed.{noteOf}
-use Rattle.edit_rules.proofs.Rules.{Inserts, insert-says, remove-says}
+use Rattle.plain_note.proofs.Edits.{Inserts, insert-says, remove-says}
 use Rattle.edited.specs.Edited.{Edited}
 use Rattle.marks.specs.MarkBytes.{editedPut}
 use Rattle.note_promise.specs.Called.{EditCalled}
@@ -102,7 +102,7 @@ module _ (m : List ℕ) (s e : ℕ) (r : Change) (a : List ℕ) (w : Edited (λ 
     ruled-so = gone .is
 
     places : (s ≤ e) × (e ≤ length (noteOf m .text))
-    places = remove-says (noteOf m) s e (rest (noteOf m)) (gone .text) ruled-so
+    places = let r = remove-says (noteOf m) s e (rest (noteOf m)) (gone .text) ruled-so in (r .rise, r .here)
 
     -- THEOREM: one of an empty range
     pub remove-idle : s ≡ e → EditCalled (λ N. removing N s e) s e [] m (change r) a

@@ -12,6 +12,7 @@ use Rattle.plain.specs.Utf8.{decode}
 use Rattle.plain.specs.Count.{lines}
 use Rattle.plain.specs.Edit.{replaced}
 use Rattle.plain.specs.Outcome.{Outcome, Outcome.value, Outcome.refused, mapped, kept}
+use Rattle.plain.proofs.Outcome.{clash}
 use Rattle.plain_note.specs.Note.{Note}
 use Rattle.plain_calls.specs.Calls.{edited, linesMore}
 use Rattle.plain_calls.proofs.Nothing.{edited-nothing}
@@ -28,9 +29,6 @@ use Rattle.marks.specs.MarkBytes.{editedPut}
 use Rattle.note_promise.specs.Called.{Left, Called, EditCalled, MarkCalled, followed}
 use Rattle.note_promise.proofs.Shape.{formed-shaped}
 use Rattle.note_promise.proofs.Edit.{edit-left, edit-head}
-
-clash : {A X : Type 0} (q : ℕ) (a : A) → refused q ≡ value a → X
-clash q a e = absurd (let z : _≡_ {A = ℕ} 0 1 = cc in omega arith)
 
 -- ── any call ──
 

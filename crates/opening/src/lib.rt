@@ -3,6 +3,12 @@ use answer::Refusal;
 use answer::Verdict;
 use head_write::set_first_free;
 use head_write::set_slots;
+use memory::MAX_SLOTS;
+use memory::MIN_SLOTS;
+use note_head::EDIT_AT;
+use note_head::FREE_AT;
+use pool::HEAD_BYTES;
+use pool::SLOT_BYTES;
 use pool::set_free;
 use pool::set_leaf;
 ghost use mathlib.Core.Path.{_≡_};
@@ -12,19 +18,6 @@ ghost use Rattle.leaf_bytes.specs.Moves.{overlaid};
 ghost use Rattle.pool.specs.Slot.{slotStart};
 ghost use Rattle.pool.specs.Calls.{Wrote};
 ghost use Rattle.opening.specs.Opened.{zeroBytes, newHead, freesPut, opens};
-
-// The slots that a note has at least, and at most.
-pub const MIN_SLOTS: usize = 17;
-
-pub const MAX_SLOTS: usize = 4096;
-
-// The bytes of the memory's head, and of a slot.
-const HEAD_BYTES: usize = 6144;
-
-const SLOT_BYTES: usize = 640;
-
-// Where in the head the first free slot stands.
-const FIRST_FREE_AT: usize = 32;
 
 // Zeros from `start` up to `end`.
 fn clear(m: &mut [u8], start: usize, end: usize)
@@ -44,9 +37,9 @@ fn put_head(m: &mut [u8], n: u32)
     ensures { λ _. ⌜ now (m .exit) ≡ overlaid 0 (newHead n) (now (m .entry)) ⌝ }
 {
     set_slots(m, n);
-    clear(m, 4, FIRST_FREE_AT);
+    clear(m, EDIT_AT, FREE_AT);
     set_first_free(m, 1);
-    clear(m, FIRST_FREE_AT + 4, HEAD_BYTES);
+    clear(m, FREE_AT + 4, HEAD_BYTES);
 }
 
 // Makes the slots from 1 to n - 1 free, each naming the next, and the last n.

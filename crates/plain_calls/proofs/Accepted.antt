@@ -1,29 +1,23 @@
 -- What an accepted call has passed, and what it then came to.
 use mathlib.Core.Path.{_≡_, sym, ap, _∙_}
-use mathlib.Core.Bool.{true, false}
+use mathlib.Core.Bool.{false}
 use mathlib.Core.List.{List, []}
-use Prim.Native.Nat.{ℕ, _+_, _≤_, _<_}
+use Prim.Native.Nat.{ℕ, _≤_, _<_}
 use lib.IntN.{ℤ}
 use lib.ListN.{length}
-use borrow.Author.Tests.{ltb-false, leb-false, not-false}
-use Rattle.plain.specs.Utf8.{validUtf8, decode}
-use Rattle.plain.specs.Place.{bytes}
+use borrow.Author.Tests.{ltb-false, leb-false}
+use Rattle.plain.specs.Utf8.{decode}
 use Rattle.plain.specs.Edit.{putIn, cutOut}
-use Rattle.plain.specs.Outcome.{Outcome.value, past}
-use Rattle.plain.proofs.Logic.{neither}
-use Rattle.plain_note.specs.Note.{Note, Mark.free, Mark.at, limit}
+use Rattle.plain.specs.Outcome.{Outcome.value}
+use Rattle.plain_note.specs.Note.{Note, Mark.free, Mark.at}
+use Rattle.plain_note.proofs.Edits.{Inserts, insert-passed, Removes, remove-passed}
 use Rattle.plain_calls.specs.Marks.{isFree, markOf, lowest}
 use Rattle.plain_calls.specs.Calls.{Call, Call.insert, Call.remove, Call.setMark, Call.dropMark, Call.look, Said, Said.done, Said.is, Said.by, edited, marked, linesMore, inserting, removing, setting, dropping, looking, said, called}
-use Rattle.plain_calls.proofs.Rules.{mapped-ruled, mapped-value, passed}
+use Rattle.plain.proofs.Outcome.{passed}
+use Rattle.plain_calls.proofs.Rules.{mapped-ruled, mapped-value}
 use Rattle.plain_calls.proofs.Refusals.{rulesOf}
 
 -- ── call by call ──
-
-pub record Inserts (N : Note) (p : ℕ) (piece : List ℕ) : Type 0 where
-  pub here : p ≤ length (N .text)
-  pub short : length piece ≤ 256
-  pub valid : validUtf8 piece ≡ true
-  pub room : bytes (N .text) + length piece ≤ limit (N .n)
 
 pub insert-came : (N : Note) (p : ℕ) (piece : List ℕ) (r : ℤ × Note) → inserting N p piece ≡ value r
     → Inserts N p piece × (r ≡ (linesMore N (putIn p (decode piece) (N .text)), edited p p (decode piece) N))
@@ -31,22 +25,14 @@ unfolding inserting
 insert-came N p piece r e =
     let rules = rulesOf N (insert p piece) in
     let w = passed rules _ r (sym (mapped-ruled (λ t. (linesMore N t, edited p p (decode piece) N)) rules (putIn p (decode piece) (N .text))) ∙ e) in
-    let v = w .0 in (
-      record { here = ltb-false _ p (v .0); short = ltb-false 256 _ (v .1 .0); valid = not-false _ (v .1 .1 .0); room = ltb-false _ _ (v .1 .1 .1 .0) },
-      w .1,
-    )
-
-pub record Removes (N : Note) (s e : ℕ) : Type 0 where
-  pub rise : s ≤ e
-  pub here : e ≤ length (N .text)
+    (insert-passed N p piece (w .0), w .1)
 
 pub remove-came : (N : Note) (s e : ℕ) (r : ℤ × Note) → removing N s e ≡ value r → Removes N s e × (r ≡ (linesMore N (cutOut s e (N .text)), edited s e [] N))
 unfolding removing
 remove-came N s e r f =
     let rules = rulesOf N (remove s e) in
     let w = passed rules _ r (sym (mapped-ruled (λ t. (linesMore N t, edited s e [] N)) rules (cutOut s e (N .text))) ∙ f) in
-    let v = neither (past s e) (past e (length (N .text))) (w .0 .0) in
-    (record { rise = ltb-false e s (v .0); here = ltb-false _ e (v .1) }, w .1)
+    (remove-passed N s e (w .0), w .1)
 
 pub record Sets (N : Note) (p : ℕ) : Type 0 where
   pub here : p ≤ length (N .text)

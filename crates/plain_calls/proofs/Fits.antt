@@ -23,7 +23,7 @@ use Rattle.plain_calls.specs.Marks.{markOf, lowest, movedTo, moved}
 use Rattle.plain_calls.specs.Calls.{Call, Call.insert, Call.remove, Call.setMark, Call.dropMark, Call.look, Said, edited, marked, called, left, afterAll}
 use Rattle.plain_calls.specs.Fits.{Placed, Fits}
 use Rattle.plain_calls.proofs.Marks.{same-or-not, marked-at, marked-free, marked-other, marks-moved, moved-within}
-use Rattle.plain_calls.proofs.Rules.{passed}
+use Rattle.plain.proofs.Outcome.{passed}
 use Rattle.plain_calls.proofs.Accepted.{came}
 
 -- ── an edit ──

@@ -11,12 +11,12 @@ use Rattle.plain.specs.Place as Place
 use Rattle.plain.specs.Count.{lineAt}
 use Rattle.plain.specs.Edit.{putIn}
 use Rattle.plain.specs.Outcome.{Outcome, Outcome.value, Outcome.refused, Rule, ruled, past, mapped}
-use Rattle.plain.proofs.Outcome.{more-refused, more-passed}
+use Rattle.plain.proofs.Outcome.{more-refused, more-passed, passed}
 use Rattle.plain_note.specs.Note.{Note, mostBy, between, converted, copied, readFrom, previewed, insertRules}
 use Rattle.plain_note.specs.Edits.{removeRules, inserted, removed}
 use Rattle.plain_calls.specs.Marks.{isFree, markOf, lowest, standing, lineBeside}
 use Rattle.plain_calls.specs.Calls.{Look, Look.total, Look.slots, Look.edits, Look.convert, Look.copy, Look.read, Look.preview, Look.place, Look.line, Call, Call.insert, Call.remove, Call.setMark, Call.dropMark, Call.look, Said, Said.done, Said.is, Said.by, Said.bytes, inserting, removing, setting, dropping, looking, said, called}
-use Rattle.plain_calls.proofs.Rules.{mapped-ruled, passed, applies-refused, Rising, Applies, refused-applies, refused-lowest}
+use Rattle.plain_calls.proofs.Rules.{mapped-ruled, applies-refused, Rising, Applies, refused-applies, refused-lowest}
 
 abbrev pub lookRules : Note → Look → List Rule
 lookRules N (total m) = []

@@ -27,13 +27,13 @@ ghost use Rattle.pool.specs.Calls.{noSlot, noEntry, held, heldBy, wrongH
 
 pub const MAX_CHILDREN: usize = 16;
 
-// Where the slots begin, and how long one is.
-const SLOTS_AT: usize = 6144;
+// How long the memory's head is, behind which the slots begin, and how long a slot is.
+pub const HEAD_BYTES: usize = 6144;
 
-const SLOT_BYTES: usize = 640;
+pub const SLOT_BYTES: usize = 640;
 
 // Where in a slot its region begins, and how long an entry is.
-const REGION_AT: usize = 128;
+pub const REGION_AT: usize = 128;
 
 const KID_BYTES: usize = 20;
 
@@ -68,13 +68,13 @@ pub enum Entry {
 fn slot_start(m: &[u8], slot: usize) -> Number
     ensures { λ r. ⌜ number r ≡ ruled (noSlot (now (m .entry)) slot ∷ []) (slotStart slot) ⌝ }
 {
-    if m.len() < SLOTS_AT {
+    if m.len() < HEAD_BYTES {
         return Number::Refused(Refusal::Memory);
     }
-    if (m.len() - SLOTS_AT) / SLOT_BYTES <= slot {
+    if (m.len() - HEAD_BYTES) / SLOT_BYTES <= slot {
         return Number::Refused(Refusal::Memory);
     }
-    Number::Is(SLOTS_AT + SLOT_BYTES * slot)
+    Number::Is(HEAD_BYTES + SLOT_BYTES * slot)
 }
 
 // Where a slot's region begins, for a caller that lends it.

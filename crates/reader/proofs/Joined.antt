@@ -17,12 +17,11 @@ use Rattle.plain.proofs.Text.{chars-encode}
 use Rattle.plain_note.specs.Note.{readFrom}
 use Rattle.note_head.specs.Head.{ownOf}
 use Rattle.memory.specs.Formed.{wellFormed, noteOf, ofNote}
-use Rattle.memory.proofs.Formed.{note-called}
+use Rattle.memory.proofs.Formed.{note-called, note-accepted}
 use Rattle.leaf_parts.specs.Parts.{fromChar}
 use Rattle.leaf_parts.specs.Front.{FrontChars}
 use Rattle.leaf_parts.proofs.Fronts.{front-filled, front-rest}
 use Rattle.leaf_parts.proofs.Notes.{told}
-use Rattle.edit_rules.proofs.Rules.{note-accepted}
 use Rattle.runs.specs.Runs.{runOf}
 use Rattle.runs.proofs.Fronts.{run-front, run-empty}
 use Rattle.reader.specs.Handed.{poolAt, runAt, behindOf, Runs, joined}

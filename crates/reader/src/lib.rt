@@ -3,7 +3,7 @@
 use answer::Verdict;
 use leaf_parts::chars_of;
 use leaf_parts::from_char;
-use leaf_parts::own_part;
+use note_head::own_part;
 use runs::run_refusal;
 use str_indices::chars;
 ghost use mathlib.Core.Path.{_≡_};

@@ -11,7 +11,9 @@ use crate::memory::read_slots;
 use crate::memory::room;
 use crate::memory::two;
 use libc::STDIN_FILENO;
+use pool::HEAD_BYTES;
 use pool::Kid;
+use pool::SLOT_BYTES;
 use text_info::TextInfo;
 
 // What reading finds: a record, its call and whether our outcome is the recorded one; the end; or what is no record.
@@ -106,6 +108,6 @@ pub(crate) fn next() -> Turn {
         return Turn::Bad;
     }
     let mut memory = room();
-    let size = 6144 + 640 * (n as usize);
+    let size = HEAD_BYTES + SLOT_BYTES * (n as usize);
     read_memory(question_of(&head), n, &mut memory[..size])
 }

@@ -1,15 +1,11 @@
 // The slots of a record. A slot is its head of 8 bytes, a length in two bytes, and as many bytes from the front of its region of 512; the
 // rest of the memory is zeros.
 use libc::STDIN_FILENO;
+use pool::HEAD_BYTES;
+use pool::REGION_AT;
+use pool::SLOT_BYTES;
 ghost use mathlib.Core.Path.{_≡_};
 ghost use lib.ListN.{length};
-
-// Where the slots begin, how long one is, and where in it its region begins.
-const SLOTS_AT: usize = 6144;
-
-const SLOT_BYTES: usize = 640;
-
-const REGION_AT: usize = 128;
 
 // The zeros of the longest memory, which has 7 slots. The `ensures` gives only the length, which lending a part of it needs.
 pub(crate) fn room() -> [u8; 10624]
@@ -48,7 +44,7 @@ fn read_region(region: &mut [u8], n: usize) -> bool {
 
 // Lays a slot's head and region into a memory. Whether they fit there.
 fn put_slot(m: &mut [u8], slot: u8, head: &[u8], region: &[u8]) -> bool {
-    let at = SLOTS_AT + SLOT_BYTES * (slot as usize);
+    let at = HEAD_BYTES + SLOT_BYTES * (slot as usize);
     if !put(m, at, head) {
         return false;
     }

@@ -14,10 +14,10 @@ use Rattle.pool.specs.declared.Kid.{Kid}
 use Rattle.pool.specs.Slot.{slotStart, lenOf}
 use Rattle.nodes.specs.Node.{tooWide, totalOf}
 use Rattle.nodes.proofs.Put.{same as node-same}
-use Rattle.tree.specs.Tree.{every, hit, uses, seamless, leastAt, sumOf, toldRight, sound}
+use Rattle.tree.specs.Tree.{every, hit, uses, seamless, leastAt, sumOf, toldRight, sound, plusSum}
 use Rattle.tree.specs.Kids.{below, fine}
 use Rattle.tree.proofs.Lists.{join-append, join-cons, sum-append, sum-cons}
-use Rattle.tree.proofs.Counts.{plusSum, sum-is, counts-add}
+use Rattle.tree.proofs.Counts.{sum-is, counts-add}
 use Rattle.tree.proofs.Sound.{valid-below}
 use Rattle.tree.proofs.Frame.{hit-self, Kept, kept, KeptAll, kept-all}
 use Rattle.tree_search.proofs.Seams.{Whole}

@@ -13,6 +13,7 @@ use nodes::store;
 use note_head::height;
 use note_head::root;
 use pool::Kid;
+use slots::LAST_SLOT;
 use slots::give_slot;
 use slots::take_slot;
 use text_info::Info;
@@ -25,9 +26,7 @@ ghost use Rattle.edits.specs.Made.{edit};
 ghost use Rattle.edits.specs.Acts.{Did};
 ghost use Rattle.root_step.specs.Root.{topPut, raised, grown, gaveWay, shrunk, rootedBy};
 
-// The last slot that 32 bits name, and the height that one byte tells at most.
-const LAST_SLOT: usize = 4294967295;
-
+// The height that one byte tells at most.
 const MAX_HEIGHT: u8 = 255;
 
 // A node becomes the root, at a height.

@@ -29,7 +29,7 @@ use Rattle.leaf_parts.specs.Parts.{byteIn, fromChar}
 use Rattle.leaf_parts.specs.Front.{FrontChars}
 use Rattle.leaf_parts.proofs.Fronts.{take-min, rest-inner, front-filled, front-empty}
 use Rattle.leaf_parts.proofs.Notes.{note-chars}
-use Rattle.edit_rules.proofs.Rules.{insert-says}
+use Rattle.plain_note.proofs.Edits.{insert-says}
 use Rattle.runs.specs.Runs.{runOf, frontOf, joinedFrom, previewOf}
 
 -- ── a text with a piece put in ──

@@ -25,9 +25,10 @@ use Rattle.answer.specs.declared.Verdict.{Verdict}
 use Rattle.answer.specs.declared.Verdict.the-variants as Verdict·case
 use Rattle.note_head.specs.Head.{rootOf, ownOf}
 use Rattle.memory.specs.Formed.{wellFormed, noteOf, ofNote}
-use Rattle.memory.proofs.Formed.{note-called, note-refused}
+use Rattle.memory.proofs.Formed.{note-called, note-refused, note-accepted}
 use Rattle.leaf_parts.specs.Parts.{byteIn, fromChar}
-use Rattle.edit_rules.proofs.Rules.{chars-are, note-accepted, insert-says}
+use Rattle.plain_note.proofs.Edits.{insert-says}
+use Rattle.edit_rules.proofs.Rules.{chars-are}
 use Rattle.runs.specs.Runs.{runOf, frontOf, joinedFrom, previewOf}
 
 -- ── any call and its companion ──

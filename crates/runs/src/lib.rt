@@ -7,7 +7,7 @@ use leaf_parts::behind;
 use leaf_parts::byte_in;
 use leaf_parts::chars_of;
 use leaf_parts::from_char;
-use leaf_parts::own_part;
+use note_head::own_part;
 use str_indices::chars;
 ghost use mathlib.Core.Path.{_≡_};
 ghost use Prim.Native.Nat.{_+_};

@@ -12,7 +12,7 @@ ghost use Rattle.pool.specs.Calls.{Wrote};
 ghost use Rattle.slots.specs.Slots.{taken, given, Took};
 
 // The last slot that 32 bits name.
-const LAST_SLOT: usize = 4294967295;
+pub const LAST_SLOT: usize = 4294967295;
 
 // The first free slot, which leaves the chain: refused by 2 where it is none.
 pub fn take_slot(m: &mut [u8]) -> Number

@@ -13,16 +13,7 @@ use Rattle.plain.proofs.Count.{count-append, breaks-append}
 use Rattle.plain.proofs.Utf8.{valid-sound, valid-append}
 use Rattle.plain.proofs.Text.{breaks-encode}
 use Rattle.text_info.specs.declared.TextSum.{TextSum}
-use Rattle.tree.specs.Tree.{sumOf}
-
-abbrev pub plusSum : TextSum → TextSum → TextSum
-plusSum a b =
-    record {
-      bytes = a .bytes + b .bytes;
-      chars = a .chars + b .chars;
-      «utf16_surrogates» = a .«utf16_surrogates» + b .«utf16_surrogates»;
-      «line_breaks» = a .«line_breaks» + b .«line_breaks»;
-    }
+use Rattle.tree.specs.Tree.{sumOf, plusSum}
 
 -- of a text the bytes are counted, and its breaks are those of its bytes
 pub bytes-valid : (s : List ℕ) → validUtf8 s ≡ true → bytes (decode s) ≡ length s

@@ -52,6 +52,16 @@ uses m (suc h) s x = hit s x + sumOver (λ k. uses m h (k .slot) x) (childrenOf 
 abbrev pub sumOf : List ℕ → TextSum
 sumOf cs = record { bytes = bytes cs; chars = length cs; «utf16_surrogates» = countIf isPair cs; «line_breaks» = breaks cs }
 
+-- the sum of two
+abbrev pub plusSum : TextSum → TextSum → TextSum
+plusSum a b =
+    record {
+      bytes = a .bytes + b .bytes;
+      chars = a .chars + b .chars;
+      «utf16_surrogates» = a .«utf16_surrogates» + b .«utf16_surrogates»;
+      «line_breaks» = a .«line_breaks» + b .«line_breaks»;
+    }
+
 -- the counts that a parent stores are these
 abbrev pub tells : TextInfo → TextSum → Bool
 tells i s =

@@ -19,11 +19,11 @@ use Rattle.pool.specs.declared.Kid.{Kid}
 use Rattle.pool.specs.Slot.{regionOf, entries, noKid}
 use Rattle.pool.proofs.Kids.{entries-length}
 use Rattle.child_search.specs.Sought.{Plus}
-use Rattle.tree.specs.Tree.{uses, joinOver, every, seamless, sumOf, tells, toldRight, leastAt, sound}
+use Rattle.tree.specs.Tree.{uses, joinOver, every, seamless, sumOf, tells, toldRight, leastAt, sound, plusSum}
 use Rattle.tree.specs.Kids.{below, fine, usesOf}
 use Rattle.tree.proofs.Lists.{both, join-none, sum-none, every-none, join-filled, join-more, sum-append, sum-cons, sum-more, every-head, every-right, every-more}
 use Rattle.tree.proofs.Seams.{cr-none, lf-none, cr-append, lf-append, seam-none, seam-more, seam-at}
-use Rattle.tree.proofs.Counts.{plusSum, sum-is, sum-nil, counts-add}
+use Rattle.tree.proofs.Counts.{sum-is, sum-nil, counts-add}
 use Rattle.tree.proofs.Sound.{join-valid, valid-below, filled-below}
 use Rattle.tree_check.specs.declared.Met.{Met}
 use Rattle.tree_check.specs.Met.{Fresh, NodeFine, NodeMet, KidsFine, kidsTo, follows, begun}

@@ -6,6 +6,9 @@ use crate::texts::begun;
 use crate::texts::check_leaf;
 use crate::texts::follows;
 use crate::texts::plus;
+pub use crate::texts::tells;
+use nodes::MIN_BYTES;
+use nodes::MIN_LEN;
 use pool::Entry;
 use pool::Head;
 use pool::head_of;
@@ -17,11 +20,6 @@ ghost use Prim.Native.Nat.{_≤_};
 ghost use Rattle.pool.specs.Calls.{outside};
 ghost use Rattle.tree.specs.Tree.{leastAt};
 ghost use Rattle.tree_check.specs.Met.{ShapeIs, NodeMet, KidsMet, kidsTo};
-
-// The least size of a node that is not the root: a leaf's bytes, a list's children.
-const MIN_BYTES: usize = 128;
-
-const MIN_CHILDREN: usize = 4;
 
 // A sound tree: the counts of its text, whether this begins with LF, and whether it ends in CR.
 pub enum Met {
@@ -42,7 +40,7 @@ fn least_of(level: u8) -> usize
     if level == 0 {
         return MIN_BYTES;
     }
-    MIN_CHILDREN
+    MIN_LEN
 }
 
 // What the slot of a node at this height is.

@@ -70,8 +70,8 @@ pub(crate) fn check_leaf(m: &[u8], slot: usize, n: usize) -> Met
     }
 }
 
-// Whether these are the counts that a list has for a child.
-fn tells(info: TextInfo, got: TextSum) -> bool
+// Whether stored counts are the counted ones.
+pub fn tells(info: TextInfo, got: TextSum) -> bool
     ensures { λ r. ⌜ r ≡ tree.tells info got ⌝ }
 {
     if info.bytes as u64 != got.bytes {

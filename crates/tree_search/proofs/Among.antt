@@ -15,10 +15,9 @@ use Rattle.text_info.specs.declared.TextSum.{TextSum}
 use Rattle.pool.specs.declared.Kid.{Kid}
 use Rattle.pool.specs.Slot.{noKid}
 use Rattle.child_search.specs.Sought.{plusInfo, sumFrom, searchFrom}
-use Rattle.tree.specs.Tree.{joinOver, every, seamless, sumOf}
+use Rattle.tree.specs.Tree.{joinOver, every, seamless, sumOf, plusSum}
 use Rattle.tree.proofs.Counts.{valid-nil, counts-add}
 use Rattle.tree.proofs.Sound.{join-valid}
-use Rattle.tree_search.specs.Search.{plusSum}
 use Rattle.tree_search.proofs.Seams.{Whole, no-back, near-back, far-front, far-back}
 
 -- a child that has a text, and tells its counts

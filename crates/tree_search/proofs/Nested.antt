@@ -16,12 +16,12 @@ use Rattle.pool.specs.declared.Kid.{Kid}
 use Rattle.child_search.specs.declared.Measure.{Measure}
 use Rattle.child_search.specs.Sought.{stopsAt, mostOf, plusInfo}
 use Rattle.nodes.specs.Node.{textOf}
-use Rattle.tree.specs.Tree.{bytesBelow, joinOver, sumOf, toldRight, sound, leastAt}
+use Rattle.tree.specs.Tree.{bytesBelow, joinOver, sumOf, toldRight, sound, leastAt, plusSum}
 use Rattle.tree.specs.Kids.{fine}
 use Rattle.tree.specs.Kids as Kids
 use Rattle.tree.proofs.Counts.{sum-is, sum-nil, counts-add}
 use Rattle.tree.proofs.Sound.{valid-below, filled-below}
-use Rattle.tree_search.specs.Search.{countIn, plusSum, PartedAt}
+use Rattle.tree_search.specs.Search.{countIn, PartedAt}
 use Rattle.tree_search.proofs.Seams.{Whole, near-front, near-back, far-back, over-front, over-back}
 use Rattle.tree_search.proofs.Among.{Kin, Chosen}
 use Rattle.tree_search.proofs.Stops.{shifted, room, room-before, reached, none-counted}

@@ -24,12 +24,12 @@ use Rattle.child_search.specs.declared.Measure.{Measure}
 use Rattle.child_search.specs.Sought.{stopsAt, mostOf, total, sumFrom, foundBy, searched}
 use Rattle.nodes.specs.Node.{isList, textOf, childrenOf}
 use Rattle.nodes.proofs.Heads.{list-says}
-use Rattle.tree.specs.Tree.{bytesBelow, joinOver, every, seamless, sumOf, toldRight, sound, leastAt, leastRoot}
+use Rattle.tree.specs.Tree.{bytesBelow, joinOver, every, seamless, sumOf, toldRight, sound, leastAt, leastRoot, plusSum}
 use Rattle.tree.specs.Kids.{fine}
 use Rattle.tree.specs.Kids as Kids
 use Rattle.tree.proofs.Counts.{sum-nil, valid-nil}
 use Rattle.tree.proofs.Sound.{leaf-bytes, list-bytes, children-length, leaf-sound, list-sound}
-use Rattle.tree_search.specs.Search.{countIn, plusSum, branchAt, below, leafAt, PartedAt}
+use Rattle.tree_search.specs.Search.{countIn, branchAt, below, leafAt, PartedAt}
 use Rattle.tree_search.proofs.Seams.{no-front, no-back}
 use Rattle.tree_search.proofs.Among.{Chosen, sums, chosen}
 use Rattle.tree_search.proofs.Stops.{reached, none-counted}

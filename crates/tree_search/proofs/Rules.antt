@@ -29,7 +29,8 @@ use Rattle.tree_search.specs.declared.Spot.{Spot}
 use Rattle.tree_search.specs.declared.Spot.the-variants as Spot·case
 use Rattle.tree_search.specs.declared.Branch.{Branch}
 use Rattle.tree_search.specs.declared.Branch.the-variants as Branch·case
-use Rattle.tree_search.specs.Search.{spot, branch, Bounded, Narrow, countIn, plusSum, branchAt, below, leafAt}
+use Rattle.tree.specs.Tree.{plusSum}
+use Rattle.tree_search.specs.Search.{spot, branch, Bounded, Narrow, countIn, branchAt, below, leafAt}
 
 -- ── a child ──
 

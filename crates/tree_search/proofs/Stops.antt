@@ -11,7 +11,8 @@ use Rattle.text_info.specs.declared.TextSum.{TextSum}
 use Rattle.child_search.specs.declared.Measure.{Measure}
 use Rattle.child_search.specs.declared.Measure.the-variants.{Bytes, Chars, Utf16, Breaks, CharEnds}
 use Rattle.child_search.specs.Sought.{stopsAt, mostOf}
-use Rattle.tree_search.specs.Search.{countIn, plusSum}
+use Rattle.tree.specs.Tree.{plusSum}
+use Rattle.tree_search.specs.Search.{countIn}
 
 ltb-shift : (i l x : ℕ) → l ≤ i → ltb i (l + x) ≡ ltb (i - l) x
 ltb-shift i l x h =

@@ -17,7 +17,7 @@ use Rattle.child_search.specs.declared.Measure.{Measure}
 use Rattle.child_search.specs.declared.Measure.the-variants.{Bytes, Chars, Utf16, Breaks, CharEnds}
 use Rattle.child_search.specs.Sought.{stopsAt, searched, Within}
 use Rattle.nodes.specs.Node.{isLeaf, isList, textOf, childrenOf}
-use Rattle.tree.specs.Tree.{bytesBelow, sumOf}
+use Rattle.tree.specs.Tree.{bytesBelow, sumOf, plusSum}
 use Rattle.tree_search.specs.declared.Spot.{Spot}
 use Rattle.tree_search.specs.declared.Spot.the-variants as Spot·case
 use Rattle.tree_search.specs.declared.Branch.{Branch}
@@ -38,15 +38,6 @@ countIn Chars s = s .chars
 countIn Utf16 s = s .chars + s .«utf16_surrogates»
 countIn Breaks s = s .«line_breaks»
 countIn CharEnds s = s .chars
-
-abbrev pub plusSum : TextSum → TextSum → TextSum
-plusSum a b =
-    record {
-      bytes = a .bytes + b .bytes;
-      chars = a .chars + b .chars;
-      «utf16_surrogates» = a .«utf16_surrogates» + b .«utf16_surrogates»;
-      «line_breaks» = a .«line_breaks» + b .«line_breaks»;
-    }
 
 -- sums that a search through h lists can find on the left
 abbrev pub Bounded : ℕ → Spot → Type 0

@@ -9,7 +9,8 @@ use text_info::TextSum;
 ghost use mathlib.Core.Path.{_≡_};
 ghost use Prim.Native.Nat.{_-_};
 ghost use Rattle.child_search.specs.Sought.{Within};
-ghost use Rattle.tree_search.specs.Search.{spot, branch, Bounded, Narrow, countIn, plusSum, branchAt, leafAt};
+ghost use Rattle.tree.specs.Tree.{plusSum};
+ghost use Rattle.tree_search.specs.Search.{spot, branch, Bounded, Narrow, countIn, branchAt, leafAt};
 
 // A leaf's slot, and the counts of the text on its left.
 pub enum Spot {

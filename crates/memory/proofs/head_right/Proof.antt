@@ -10,14 +10,14 @@ use Rattle.memory.proofs.head_right.Tie as tie
 root-requires : tie.Need-root-requires
 root-requires c κs = search needs
 
-told-requires : tie.Need-told-requires
-told-requires c κs = search needs
+tells-requires : tie.Need-tells-requires
+tells-requires c κs = search needs
 
 returns : tie.Need-returns
 returns c =
     let a = c .before .before .before .before .args in
     let r = c .before .before .root in
-    head-untold (a .m .now) (a .n) (a .sum) (r .result) (r .ensures) (sym (c .before .told .ensures) ∙ not-true _ (c .if1 .taken))
+    head-untold (a .m .now) (a .n) (a .sum) (r .result) (r .ensures) (sym (c .before .tells .ensures) ∙ not-true _ (c .if1 .taken))
 
 sub-most : tie.Need-sub-most
 sub-most c = search needs
@@ -30,7 +30,7 @@ returns-2 c =
     let s = c .before .before in
     let a = s .before .before .before .before .args in
     let r = s .before .before .root in
-    head-large (a .m .now) (a .n) (a .sum) (r .result) (r .ensures) (sym (s .before .told .ensures) ∙ not-false _ (s .if1 .left)) (omega arith)
+    head-large (a .m .now) (a .n) (a .sum) (r .result) (r .ensures) (sym (s .before .tells .ensures) ∙ not-false _ (s .if1 .left)) (omega arith)
 
 marks-right-requires : tie.Need-marks-right-requires
 marks-right-requires c κs = search needs
@@ -40,14 +40,14 @@ returns-3 c =
     let s = c .before .before .before in
     let a = s .before .before .before .before .args in
     let r = s .before .before .root in
-    head-marks (a .m .now) (a .n) (a .sum) (r .result) (r .ensures) (sym (s .before .told .ensures) ∙ not-false _ (s .if1 .left)) (omega arith) (c .marks-right .result) (c .marks-right .ensures)
+    head-marks (a .m .now) (a .n) (a .sum) (r .result) (r .ensures) (sym (s .before .tells .ensures) ∙ not-false _ (s .if1 .left)) (omega arith) (c .marks-right .result) (c .marks-right .ensures)
 
 pub head-right-spec : {M : Type 1} → statement M
 head-right-spec =
     tie.close
     (tie.spec
     root-requires
-    told-requires
+    tells-requires
     returns
     sub-most
     mul-most

@@ -2,13 +2,11 @@
 use mathlib.Core.Path.{sym, ap, _∙_}
 use mathlib.Core.List.{List}
 use Prim.Native.Nat.{ℕ}
-use native.Mathlib.Omega.{arith}
-use lib.Seq.{length-take-le}
 use borrow.Author.Tests.{not-true, not-false}
 use Rattle.plain_note.specs.Note.{converted}
 use Rattle.memory.specs.Formed.{noteIn}
 use Rattle.note_counts.specs.Counts.{measure}
-use Rattle.note_counts.proofs.Rules.{not-formed, well-formed, need-met, own-lent, lent-right}
+use Rattle.note_counts.proofs.Rules.{not-formed, well-formed, lent-right}
 use borrow.Author.Needs.{needs}
 use Rattle.note_counts.proofs.convert.Statement.{statement}
 use Rattle.note_counts.proofs.convert.Tie as tie
@@ -19,30 +17,19 @@ check-requires c κs = search needs
 returns : tie.Need-returns
 returns c = not-formed (c .before .before .before .args .m .now) _ _ (c .before .check .ensures) (not-true _ (c .if1 .taken))
 
-slots-requires : tie.Need-slots-requires
-slots-requires c κs = search needs
-
-mul-end : tie.Need-mul-end
-mul-end c = search needs
-
-add-end : tie.Need-add-end
-add-end c = search needs
-
-slice-aggregate-converted-in : tie.Need-slice-aggregate-converted-in
-slice-aggregate-converted-in c =
-    let m = c .before .before .before .before .before .args .m .now in
-    sym (length-take-le _ m (omega (arith, need-met m _ (c .before .before .before .check .ensures) (not-false _ (c .before .before .if1 .left)), c .before .slots .ensures .0)))
+own-part-requires : tie.Need-own-part-requires
+own-part-requires c κs = search needs
 
 converted-in-requires : tie.Need-converted-in-requires
-converted-in-requires c κs = lent-right (c .before .before .before .before .before .args .m .now) _ (c .before .before .before .check .ensures) (not-false _ (c .before .before .if1 .left)) _ (c .before .slots .ensures .0)
+converted-in-requires c κs = lent-right (c .before .before .before .before .args .m .now) _ (c .before .before .check .ensures) (not-false _ (c .before .if1 .left)) _ (c .own-part .ensures)
 
 returns-2 : tie.Need-returns-2
 returns-2 c =
-    let a = c .before .before .before .before .before .before .args in
-    let yes = not-false _ (c .before .before .before .if1 .left) in
+    let a = c .before .before .before .before .before .args in
+    let yes = not-false _ (c .before .before .if1 .left) in
     c .converted-in .ensures
-    ∙ ap (λ (l : List ℕ). converted (measure (a .from)) (measure (a .to)) (noteIn l) (a .idx)) (own-lent (a .m .now) _ (c .before .before .before .before .check .ensures) yes _ (c .before .before .slots .ensures .0))
-    ∙ sym (well-formed (a .m .now) _ _ (c .before .before .before .before .check .ensures) yes)
+    ∙ ap (λ (l : List ℕ). converted (measure (a .from)) (measure (a .to)) (noteIn l) (a .idx)) (c .before .own-part .ensures)
+    ∙ sym (well-formed (a .m .now) _ _ (c .before .before .before .check .ensures) yes)
 
 pub convert-spec : {M : Type 1} → statement M
 convert-spec =
@@ -50,9 +37,6 @@ convert-spec =
     (tie.spec
     check-requires
     returns
-    slots-requires
-    mul-end
-    add-end
-    slice-aggregate-converted-in
+    own-part-requires
     converted-in-requires
     returns-2)

@@ -2,14 +2,12 @@
 use mathlib.Core.Path.{sym, ap, _∙_}
 use mathlib.Core.List.{List}
 use Prim.Native.Nat.{ℕ}
-use native.Mathlib.Omega.{arith}
-use lib.Seq.{length-take-le}
 use borrow.Author.Tests.{not-true, not-false}
 use Rattle.plain.specs.Outcome.{Outcome.value}
 use Rattle.plain_note.specs.Note.{mostBy}
 use Rattle.memory.specs.Formed.{noteIn}
 use Rattle.note_counts.specs.Counts.{measure}
-use Rattle.note_counts.proofs.Rules.{not-formed, well-formed, need-met, own-lent, lent-right}
+use Rattle.note_counts.proofs.Rules.{not-formed, well-formed, lent-right}
 use borrow.Author.Needs.{needs}
 use Rattle.note_counts.proofs.length_by.Statement.{statement}
 use Rattle.note_counts.proofs.length_by.Tie as tie
@@ -20,30 +18,19 @@ check-requires c κs = search needs
 returns : tie.Need-returns
 returns c = not-formed (c .before .before .before .args .m .now) _ _ (c .before .check .ensures) (not-true _ (c .if1 .taken))
 
-slots-requires : tie.Need-slots-requires
-slots-requires c κs = search needs
-
-mul-end : tie.Need-mul-end
-mul-end c = search needs
-
-add-end : tie.Need-add-end
-add-end c = search needs
-
-slice-aggregate-most : tie.Need-slice-aggregate-most
-slice-aggregate-most c =
-    let m = c .before .before .before .before .before .args .m .now in
-    sym (length-take-le _ m (omega (arith, need-met m _ (c .before .before .before .check .ensures) (not-false _ (c .before .before .if1 .left)), c .before .slots .ensures .0)))
+own-part-requires : tie.Need-own-part-requires
+own-part-requires c κs = search needs
 
 most-requires : tie.Need-most-requires
-most-requires c κs = lent-right (c .before .before .before .before .before .args .m .now) _ (c .before .before .before .check .ensures) (not-false _ (c .before .before .if1 .left)) _ (c .before .slots .ensures .0)
+most-requires c κs = lent-right (c .before .before .before .before .args .m .now) _ (c .before .before .check .ensures) (not-false _ (c .before .if1 .left)) _ (c .own-part .ensures)
 
 returns-2 : tie.Need-returns-2
 returns-2 c =
-    let a = c .before .before .before .before .before .before .args in
-    let yes = not-false _ (c .before .before .before .if1 .left) in
+    let a = c .before .before .before .before .before .args in
+    let yes = not-false _ (c .before .before .if1 .left) in
     ap (λ (n : ℕ). value n) (c .most .ensures)
-    ∙ ap (λ (l : List ℕ). value (mostBy (measure (a .by)) (noteIn l .text))) (own-lent (a .m .now) _ (c .before .before .before .before .check .ensures) yes _ (c .before .before .slots .ensures .0))
-    ∙ sym (well-formed (a .m .now) _ _ (c .before .before .before .before .check .ensures) yes)
+    ∙ ap (λ (l : List ℕ). value (mostBy (measure (a .by)) (noteIn l .text))) (c .before .own-part .ensures)
+    ∙ sym (well-formed (a .m .now) _ _ (c .before .before .before .check .ensures) yes)
 
 pub length-by-spec : {M : Type 1} → statement M
 length-by-spec =
@@ -51,9 +38,6 @@ length-by-spec =
     (tie.spec
     check-requires
     returns
-    slots-requires
-    mul-end
-    add-end
-    slice-aggregate-most
+    own-part-requires
     most-requires
     returns-2)

@@ -10,7 +10,8 @@ use Rattle.plain.specs.Utf8.{decode}
 use Rattle.plain.specs.Edit.{putIn}
 use Rattle.answer.specs.Answers.{verdict}
 use Rattle.edited.specs.Turned.{textIn, Turned, Puts}
-use Rattle.edited.proofs.Promise.{own-part, rest-part, own-room, insert-formed, insert-puts, insert-refused, insert-done}
+use Rattle.note_head.proofs.Own.{own-front}
+use Rattle.edited.proofs.Promise.{rest-part, own-room, insert-formed, insert-puts, insert-refused, insert-done}
 use Rattle.note_edits.proofs.insert.Statement.{statement}
 use Rattle.note_edits.proofs.insert.Tie as tie
 
@@ -26,29 +27,23 @@ enum-told c = search needs
 breaks-of-requires : tie.Need-breaks-of-requires
 breaks-of-requires c κs = search needs
 
-slots-requires : tie.Need-slots-requires
-slots-requires c κs = search needs
-
-mul-end : tie.Need-mul-end
-mul-end c = search needs
-
-add-end : tie.Need-add-end
-add-end c = search needs
+need-requires : tie.Need-need-requires
+need-requires c κs = search needs
 
 slice-relend-prefix-insert-own : tie.Need-slice-relend-prefix-insert-own
 slice-relend-prefix-insert-own c =
     let a = c .before .before .before .before .before .before .before .before .before .before .args in
-    own-room (a .m .now) _ (c .slots .ensures .0) (insert-formed (a .m .now) (a .p) (a .piece .now) (sym (ap verdict (c .before .before .before .before .enum-told .given .1)) ∙ c .before .before .before .before .before .before .insert-refusal .ensures))
+    own-room (a .m .now) _ (c .need .ensures) (insert-formed (a .m .now) (a .p) (a .piece .now) (sym (ap verdict (c .before .before .before .before .enum-told .given .1)) ∙ c .before .before .before .before .before .before .insert-refusal .ensures))
 
 slice-aggregate-insert-own : tie.Need-slice-aggregate-insert-own
 slice-aggregate-insert-own c =
     let a = c .before .before .before .before .before .before .before .before .before .before .before .args in
-    sym (length-take-le _ (a .m .now) (own-room (a .m .now) _ (c .before .slots .ensures .0) (insert-formed (a .m .now) (a .p) (a .piece .now) (sym (ap verdict (c .before .before .before .before .before .enum-told .given .1)) ∙ c .before .before .before .before .before .before .before .insert-refusal .ensures))))
+    sym (length-take-le _ (a .m .now) (own-room (a .m .now) _ (c .before .need .ensures) (insert-formed (a .m .now) (a .p) (a .piece .now) (sym (ap verdict (c .before .before .before .before .before .enum-told .given .1)) ∙ c .before .before .before .before .before .before .before .insert-refusal .ensures))))
 
 insert-own-requires : tie.Need-insert-own-requires
 insert-own-requires c κs =
     let a = c .before .before .before .before .before .before .before .before .before .before .before .args in
-    subst (λ (l : List ℕ). Puts l (a .p) (a .piece .now)) (sym (own-part (a .m .now) _ (c .before .slots .ensures .0))) (insert-puts (a .m .now) (a .p) (a .piece .now) (sym (ap verdict (c .before .before .before .before .before .enum-told .given .1)) ∙ c .before .before .before .before .before .before .before .insert-refusal .ensures))
+    subst (λ (l : List ℕ). Puts l (a .p) (a .piece .now)) (sym (own-front (a .m .now) _ (c .before .need .ensures))) (insert-puts (a .m .now) (a .p) (a .piece .now) (sym (ap verdict (c .before .before .before .before .before .enum-told .given .1)) ∙ c .before .before .before .before .before .before .before .insert-refusal .ensures))
 
 breaks-of-requires-2 : tie.Need-breaks-of-requires-2
 breaks-of-requires-2 c κs = search needs
@@ -71,8 +66,8 @@ returns-2 : tie.Need-returns-2
 returns-2 c =
     let a = c .before .before .before .before .before .before .before .before .before .before .before .before .before .before .before .before .before .args in
     let later = c .before .before .before .before .before .insert-own .last .0 in
-    let k = c .before .before .before .before .before .before .before .slots .ensures .0 in
-    let o = own-part (a .m .now) _ k in
+    let k = c .before .before .before .before .before .before .before .need .ensures in
+    let o = own-front (a .m .now) _ k in
     insert-done (a .m .now) (a .p) (a .piece .now) (sym (ap verdict (c .before .before .before .before .before .before .before .before .before .before .before .enum-told .given .1)) ∙ c .before .before .before .before .before .before .before .before .before .before .before .before .before .insert-refusal .ensures) later
     (subst (λ (l : List ℕ). Turned l (putIn (a .p) (decode (a .piece .now)) (textIn l)) later) o (c .before .before .before .before .before .insert-own .ensures .0))
     (subst (λ (l : List ℕ). a .piece .now ≡ [] → later ≡ l) o (c .before .before .before .before .before .insert-own .ensures .1))
@@ -87,9 +82,7 @@ insert-spec =
     enum-known-may
     enum-told
     breaks-of-requires
-    slots-requires
-    mul-end
-    add-end
+    need-requires
     slice-relend-prefix-insert-own
     slice-aggregate-insert-own
     insert-own-requires

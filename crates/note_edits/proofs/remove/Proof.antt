@@ -9,7 +9,8 @@ use mir.ValLaws.{toZ-ofZ}
 use Rattle.plain.specs.Edit.{cutOut}
 use Rattle.answer.specs.Answers.{verdict}
 use Rattle.edited.specs.Turned.{textIn, Turned, Removes}
-use Rattle.edited.proofs.Promise.{own-part, rest-part, own-room, remove-formed, remove-removes, remove-refused, remove-done}
+use Rattle.note_head.proofs.Own.{own-front}
+use Rattle.edited.proofs.Promise.{rest-part, own-room, remove-formed, remove-removes, remove-refused, remove-done}
 use Rattle.note_edits.proofs.remove.Statement.{statement}
 use Rattle.note_edits.proofs.remove.Tie as tie
 
@@ -25,29 +26,23 @@ enum-told c = search needs
 breaks-of-requires : tie.Need-breaks-of-requires
 breaks-of-requires c κs = search needs
 
-slots-requires : tie.Need-slots-requires
-slots-requires c κs = search needs
-
-mul-end : tie.Need-mul-end
-mul-end c = search needs
-
-add-end : tie.Need-add-end
-add-end c = search needs
+need-requires : tie.Need-need-requires
+need-requires c κs = search needs
 
 slice-relend-prefix-remove-own : tie.Need-slice-relend-prefix-remove-own
 slice-relend-prefix-remove-own c =
     let a = c .before .before .before .before .before .before .before .before .before .args in
-    own-room (a .m .now) _ (c .slots .ensures .0) (remove-formed (a .m .now) (a .s) (a .e) (sym (ap verdict (c .before .before .before .before .enum-told .given .1)) ∙ c .before .before .before .before .before .before .remove-refusal .ensures))
+    own-room (a .m .now) _ (c .need .ensures) (remove-formed (a .m .now) (a .s) (a .e) (sym (ap verdict (c .before .before .before .before .enum-told .given .1)) ∙ c .before .before .before .before .before .before .remove-refusal .ensures))
 
 slice-aggregate-remove-own : tie.Need-slice-aggregate-remove-own
 slice-aggregate-remove-own c =
     let a = c .before .before .before .before .before .before .before .before .before .before .args in
-    sym (length-take-le _ (a .m .now) (own-room (a .m .now) _ (c .before .slots .ensures .0) (remove-formed (a .m .now) (a .s) (a .e) (sym (ap verdict (c .before .before .before .before .before .enum-told .given .1)) ∙ c .before .before .before .before .before .before .before .remove-refusal .ensures))))
+    sym (length-take-le _ (a .m .now) (own-room (a .m .now) _ (c .before .need .ensures) (remove-formed (a .m .now) (a .s) (a .e) (sym (ap verdict (c .before .before .before .before .before .enum-told .given .1)) ∙ c .before .before .before .before .before .before .before .remove-refusal .ensures))))
 
 remove-own-requires : tie.Need-remove-own-requires
 remove-own-requires c κs =
     let a = c .before .before .before .before .before .before .before .before .before .before .args in
-    subst (λ (l : List ℕ). Removes l (a .s) (a .e)) (sym (own-part (a .m .now) _ (c .before .slots .ensures .0))) (remove-removes (a .m .now) (a .s) (a .e) (sym (ap verdict (c .before .before .before .before .before .enum-told .given .1)) ∙ c .before .before .before .before .before .before .before .remove-refusal .ensures))
+    subst (λ (l : List ℕ). Removes l (a .s) (a .e)) (sym (own-front (a .m .now) _ (c .before .need .ensures))) (remove-removes (a .m .now) (a .s) (a .e) (sym (ap verdict (c .before .before .before .before .before .enum-told .given .1)) ∙ c .before .before .before .before .before .before .before .remove-refusal .ensures))
 
 breaks-of-requires-2 : tie.Need-breaks-of-requires-2
 breaks-of-requires-2 c κs = search needs
@@ -70,8 +65,8 @@ returns-2 : tie.Need-returns-2
 returns-2 c =
     let a = c .before .before .before .before .before .before .before .before .before .before .before .before .before .before .before .before .args in
     let later = c .before .before .before .before .before .remove-own .last .0 in
-    let k = c .before .before .before .before .before .before .before .slots .ensures .0 in
-    let o = own-part (a .m .now) _ k in
+    let k = c .before .before .before .before .before .before .before .need .ensures in
+    let o = own-front (a .m .now) _ k in
     remove-done (a .m .now) (a .s) (a .e) (sym (ap verdict (c .before .before .before .before .before .before .before .before .before .before .before .enum-told .given .1)) ∙ c .before .before .before .before .before .before .before .before .before .before .before .before .before .remove-refusal .ensures) later
     (subst (λ (l : List ℕ). Turned l (cutOut (a .s) (a .e) (textIn l)) later) o (c .before .before .before .before .before .remove-own .ensures .0))
     (subst (λ (l : List ℕ). a .s ≡ a .e → later ≡ l) o (c .before .before .before .before .before .remove-own .ensures .1))
@@ -86,9 +81,7 @@ remove-spec =
     enum-known-may
     enum-told
     breaks-of-requires
-    slots-requires
-    mul-end
-    add-end
+    need-requires
     slice-relend-prefix-remove-own
     slice-aggregate-remove-own
     remove-own-requires
