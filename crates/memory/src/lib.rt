@@ -150,13 +150,7 @@ fn check_root(m: &[u8], seen: &mut [u8]) -> Met
 {
     let root = note_head::root(m);
     let height = note_head::height(m);
-    check_node(
-        m,
-        seen,
-        height,
-        root.slot as usize,
-        least_root(height),
-    )
+    check_node(m, seen, height, root.slot as usize, least_root(height))
 }
 
 // ── the memory ──
