@@ -2,6 +2,7 @@
 
 use std::hint::black_box;
 
+use notes::library::{wol_note_insert, wol_note_remove};
 use notes::texts::Random;
 
 use crate::clock::Way;
@@ -10,23 +11,7 @@ type Insert = unsafe extern "C" fn(*mut u8, usize, usize, *const u8, usize, &mut
 type Remove = unsafe extern "C" fn(*mut u8, usize, usize, usize, &mut i64) -> u8;
 
 extern "C" {
-    fn wol_note_insert(
-        memory: *mut u8,
-        len: usize,
-        place: usize,
-        piece: *const u8,
-        piece_len: usize,
-        change: &mut i64,
-    ) -> u8;
-    fn wol_note_remove(
-        memory: *mut u8,
-        len: usize,
-        start: usize,
-        end: usize,
-        change: &mut i64,
-    ) -> u8;
-
-    // Of tests/bench/rattle/unchecked.rt.txt.
+    // Of tests/bench/unchecked.rt.txt.
     fn wol_unchecked_insert(
         memory: *mut u8,
         len: usize,

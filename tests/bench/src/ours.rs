@@ -2,14 +2,8 @@
 //! ends the program: none is asked for here.
 
 use notes::asks::Call;
+use notes::library::{wol_note_copy, wol_note_preview, wol_note_run, Slice};
 use notes::marks::{self, Marking};
-
-/// A part that is handed out, as it lies in memory.
-#[repr(C)]
-struct Slice {
-    at: *const u8,
-    len: usize,
-}
 
 extern "C" {
     fn wol_raw_count_chars(text: *const u8, len: usize) -> usize;
@@ -22,25 +16,6 @@ extern "C" {
         text: *const u8,
         len: usize,
         out: &mut u64,
-    ) -> u8;
-    fn wol_note_copy(
-        memory: *const u8,
-        len: usize,
-        start: usize,
-        end: usize,
-        out: *mut u8,
-        out_len: usize,
-        count: &mut u64,
-    ) -> u8;
-    fn wol_note_run(memory: *const u8, len: usize, place: usize, part: &mut Slice) -> u8;
-    fn wol_note_preview(
-        memory: *const u8,
-        len: usize,
-        piece: *const u8,
-        piece_len: usize,
-        place: usize,
-        from: usize,
-        part: &mut Slice,
     ) -> u8;
 }
 

@@ -6,6 +6,7 @@
 //! compare --record FILE       writes a sample of the source's answers on texts and leaves
 //! compare --record-lists FILE writes a sample of its answers on child lists
 
+mod by_call;
 mod calls;
 mod edit;
 mod groups;

@@ -2,25 +2,8 @@
 
 use std::fmt;
 
+use crate::library::{wol_note_insert, wol_note_remove};
 use crate::memory;
-
-extern "C" {
-    fn wol_note_insert(
-        memory: *mut u8,
-        len: usize,
-        place: usize,
-        piece: *const u8,
-        piece_len: usize,
-        change: &mut i64,
-    ) -> u8;
-    fn wol_note_remove(
-        memory: *mut u8,
-        len: usize,
-        start: usize,
-        end: usize,
-        change: &mut i64,
-    ) -> u8;
-}
 
 #[derive(Clone)]
 pub enum Edit {

@@ -7,7 +7,7 @@ use std::ptr;
 
 const PAGE: usize = 4_096;
 
-// Of Linux on x86-64.
+// Of Linux, with pages of 4 KiB.
 const NONE: i32 = 0;
 const READ_WRITE: i32 = 3;
 const PRIVATE_ANONYMOUS: i32 = 0x22;

@@ -6,6 +6,7 @@ pub mod build;
 pub mod edits;
 pub mod formed;
 pub mod lent;
+pub mod library;
 pub mod marks;
 pub mod memory;
 pub mod ours;

@@ -3,12 +3,8 @@
 
 use crate::asks::UNTOUCHED;
 use crate::edits::Edit;
+use crate::library::{wol_note_drop_mark, wol_note_set_mark};
 use crate::memory::{self, EDIT, HEAD, MARK, MARKS};
-
-extern "C" {
-    fn wol_note_set_mark(memory: *mut u8, len: usize, place: usize, mark: &mut u64) -> u8;
-    fn wol_note_drop_mark(memory: *mut u8, len: usize, mark: usize) -> u8;
-}
 
 /// How many marks there are.
 pub const MOST: usize = 256;

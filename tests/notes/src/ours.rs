@@ -1,40 +1,12 @@
-//! The library that is tested. A slice passes as its pointer, then its length.
+//! The library that is tested: it is opened, checked and asked.
 
 use std::time::{Duration, Instant};
 
 use crate::asks::{Answer, Ask, Part, UNTOUCHED};
-
-/// A part that is handed out, as it lies in memory.
-#[repr(C)]
-struct Slice {
-    at: *const u8,
-    len: usize,
-}
-
-extern "C" {
-    fn wol_note_open(memory: *mut u8, len: usize, n: usize) -> u8;
-    fn wol_note_check(memory: *const u8, len: usize) -> bool;
-    fn wol_note_read(call: u8, memory: *const u8, len: usize, index: usize, value: &mut u64) -> u8;
-    fn wol_note_copy(
-        memory: *const u8,
-        len: usize,
-        start: usize,
-        end: usize,
-        out: *mut u8,
-        out_len: usize,
-        count: &mut u64,
-    ) -> u8;
-    fn wol_note_run(memory: *const u8, len: usize, place: usize, part: &mut Slice) -> u8;
-    fn wol_note_preview(
-        memory: *const u8,
-        len: usize,
-        piece: *const u8,
-        piece_len: usize,
-        place: usize,
-        from: usize,
-        part: &mut Slice,
-    ) -> u8;
-}
+use crate::library::{
+    wol_note_check, wol_note_copy, wol_note_open, wol_note_preview, wol_note_read, wol_note_run,
+    Slice,
+};
 
 /// Opens a note, and answers the refusal or 0.
 pub fn open(memory: &mut [u8], n: usize) -> u8 {
