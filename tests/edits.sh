@@ -1,26 +1,69 @@
 #!/bin/sh
 # edits.sh [CRATE...]   tries every must-fail edit of the crates named, or of all: those of the gate, and those that lie in must-fail/more beside them.
-# It works on a copy below target/, where all of them lie in one folder, and trusts what was proved already.
+#   Each is refused, or the run fails; so it does where an edit only makes a proof file unfit for the code, which shows nothing.
+# It proves what is not proved yet, and then goes by the toolchain's quick loop, which checks anew only what an edit touches: a third of the time. The
+# gate tries its own edits from nothing.
 set -eu
 cd "$(dirname "$0")/.."
-copy=target/edits
-rm -rf "$copy"
-mkdir -p "$copy"
-git ls-files -co --exclude-standard crates crates.txt | tar -cf - -T - | tar -xf - -C "$copy"
-for more in "$copy"/crates/*/must-fail/more; do
-    mv "$more"/*.edit "$(dirname "$more")"
-    rmdir "$more"
-done
-# Edits of crates that are not asked for are left out: rt tries those of every crate below too.
-if [ $# -gt 0 ]; then
-    for folder in "$copy"/crates/*/must-fail; do
-        crate=$(basename "$(dirname "$folder")")
-        case " $* " in *" $crate "*) ;; *) rm -rf "$folder" ;; esac
+
+# Puts an edit of one or more replacements into the crate that lies in this folder; each text to be replaced stands there once.
+put() {
+    file='' old=''
+    while IFS= read -r line || [ -n "$line" ]; do
+        case $line in
+        'file: '*) file=${line#file: } ;;
+        'old: '*) old=${line#old: } ;;
+        'new:'*)
+            new=${line#new:}
+            OLD=$old NEW=${new# } awk '
+                { text = text $0 "\n" }
+                END {
+                    old = ENVIRON["OLD"]
+                    at = index(text, old)
+                    rest = substr(text, at + length(old))
+                    if (!at || index(rest, old)) exit 1
+                    printf "%s%s%s", substr(text, 1, at - 1), ENVIRON["NEW"], rest
+                }' "$file" >edited || return 1
+            mv edited "$file"
+            ;;
+        esac
+    done <"$1"
+}
+
+# Tries one edit in the copy of its crate, over a check of the unedited one; the log lies beside the copy.
+try() {
+    label=$(basename "$edit" .edit) log=$copy/$(basename "$edit" .edit).log
+    rm -rf "$copy/crates/$crate"
+    cp -R "crates/$crate" "$copy/crates/$crate"
+    (cd "$copy/crates/$crate" && put "$top/$edit") || { echo "edits: $crate/$label names no text that stands once"; return 1; }
+    status=0
+    (cd "$copy" && rt dev "$crate") >"$log" 2>&1 || status=$?
+    first=$(grep -m 1 -o '^[^ ]*: error.*' "$log" | sed "s|^$top/$copy/crates/$crate/||" | cut -c 1-160)
+    if [ "$status" -ne 1 ] || ! grep -q '^logic=not-proved' "$log"; then
+        echo "edits: $crate/$label is NOT refused (status $status)"
+        return 1
+    fi
+    case $first in *'has no `Need-'*) echo "edits: $crate/$label only makes a proof file unfit: $first"; return 1 ;; esac
+    echo "edits: $crate/$label is refused: $first"
+}
+
+# One crate, in a folder of its own: the others are links.
+if [ "${1-}" = --one ]; then
+    crate=$2 top=$PWD copy=target/edits/$2 failed=0
+    mkdir -p "$copy/crates" "$copy/target"
+    cp crates.txt "$copy/"
+    for other in crates/*; do [ "$other" = "crates/$crate" ] || ln -s "$top/$other" "$copy/crates/"; done
+    for part in rlib stamp; do ln -s "$top/target/$part" "$copy/target/$part"; done
+    cp -R "crates/$crate" "$copy/crates/$crate"
+    (cd "$copy" && rt dev "$crate") >"$copy/unedited.log" 2>&1 || { echo "edits: $crate is not proved"; exit 1; }
+    for edit in "crates/$crate"/must-fail/*.edit "crates/$crate"/must-fail/more/*.edit; do
+        [ ! -f "$edit" ] || try || failed=1
     done
+    exit "$failed"
 fi
-mkdir "$copy/target"
-for part in rlib stamp log; do
-    [ ! -d "target/$part" ] || cp -R "target/$part" "$copy/target/$part"
-done
-cd "$copy"
-exec rt must-fail "$@"
+
+rt check "$@" >target/edits.log 2>&1 || { cat target/edits.log; exit 1; }
+rm -rf target/edits
+[ $# -gt 0 ] || set -- $(cd crates && for folder in */must-fail; do dirname "$folder"; done)
+printf '%s\n' "$@" | xargs -P "${RT_JOBS:-$(nproc)}" -n 1 tests/edits.sh --one >target/edits.said || { grep -v 'is refused' target/edits.said; exit 1; }
+echo "edits: $(grep -c 'is refused' target/edits.said) refused, each at a false fact"
