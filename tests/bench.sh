@@ -31,11 +31,10 @@ sed -i '/^pub fn check(/,/^}/ { /^{/,/^}/ c\
 }
 }' "$bare/crates/memory/src/lib.rt"
 cp tests/bench/unchecked.rt.txt "$bare/crates/unchecked/src/lib.rt"
-echo 'unchecked: answer line_change note_edits note' >>"$bare/crates.txt"
 (
     cd "$bare"
     . tests/build.sh
-    compile unchecked crates/unchecked/src/lib.rt >&2
+    compile unchecked crates/unchecked/src/lib.rt answer line_change note_edits note >&2
 )
 
 # The source crate over a quicker str_indices; its version tells it from the one below target/oracle.

@@ -48,14 +48,17 @@ lay_compiler() {
     ln -s "$kit/toolchain/lib" "$compiler/lib"
 }
 
-# compile NAME FILE   writes $archives/libNAME.a of a crate whose root file is this one, with nothing proved.
+# compile NAME FILE [CRATE...]   writes $archives/libNAME.a of a crate whose root file is this one, with nothing proved. It needs the crates named, or
+# those that crates.txt has for it.
 compile() {
     name=$1 file=$2
+    shift 2
+    needs=$(for crate in ${*:-"$name"}; do [ $# -eq 0 ] || echo "$crate"; reached_by "$crate"; done | tr ' ' '\n' | sort -u)
     [ -x "$own/bin/rattle-cases" ] || skip "as this kit compiles nothing without a proof, and for x86-64 alone"
     lay_compiler
     mkdir -p "$archives"
     set -- --lib "std=$kit/libs/std/src/lib.rt"
-    for crate in $(reached_by "$name"); do
+    for crate in $needs; do
         lib=crates/$crate/src/lib.rt
         [ -f "$lib" ] || lib=$kit/libs/$crate/src/lib.rt
         set -- "$@" --lib "$crate=$lib"

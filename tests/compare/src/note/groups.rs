@@ -10,6 +10,7 @@ use notes::texts::Random;
 use notes::{memory, ours};
 use ropey::Rope;
 
+use super::reader::{self, Read};
 use super::tally::{self, Case, Group};
 use crate::tally::Totals;
 
@@ -119,7 +120,8 @@ fn any_index(random: &mut Random, note: &Note, by: Measure) -> usize {
     }
 }
 
-/// The totals, marks, copies and previews at any places, and the runs from a place on, joined.
+/// The totals, marks, copies and previews at any places, and what runs and a reader give from a place
+/// on.
 fn others(random: &mut Random, case: &Case, asked: usize, group: &mut Group) {
     let note = case.note;
     group.compare(case, &Ask::Check);
@@ -180,6 +182,7 @@ fn others(random: &mut Random, case: &Case, asked: usize, group: &mut Group) {
         );
     }
     for _ in 0..3 {
+        by_reader(case, any_index(random, note, Measure::Char), group);
         let place = any_index(random, note, Measure::Char).min(note.places.chars());
         let joined = joined_runs(case, place);
         let rest = &note.text.as_bytes()[note.places.byte_of(place)..];
@@ -214,6 +217,37 @@ fn any_piece(random: &mut Random, note: &Note) -> Vec<u8> {
         2 => random.text_of((room + 1).min(256)),
         _ => random.text(room.min(256)).into_bytes(),
     }
+}
+
+/// A reader's runs are the rest of each leaf from the place on; a refused one has none.
+fn by_reader(case: &Case, place: usize, group: &mut Group) {
+    let note = case.note;
+    let refused = |refusal| Read {
+        refusal,
+        joined: Vec::new(),
+        runs: 0,
+    };
+    let due = if place > note.places.chars() {
+        refused(3)
+    } else {
+        let byte = note.places.byte_of(place);
+        Read {
+            refusal: 0,
+            joined: note.text.as_bytes()[byte..].to_vec(),
+            runs: note.leaves.iter().filter(|leaf| leaf.end > byte).count(),
+        }
+    };
+    let most = note.text.len() + 1;
+    let holds = reader::read(case.memory, place, most) == due;
+    group.hold(
+        case,
+        holds,
+        "a reader does not read the note from its place",
+    );
+
+    let short = &case.memory[..memory::need(note.n) - 1];
+    let holds = reader::read(short, place, most) == refused(2);
+    group.hold(case, holds, "a reader of memory that is too short");
 }
 
 fn joined_runs(case: &Case, from: usize) -> Vec<u8> {
