@@ -38,7 +38,7 @@ try() {
     (cd "$copy/crates/$crate" && put "$top/$edit") || { echo "edits: $crate/$label names no text that stands once"; return 1; }
     status=0
     (cd "$copy" && rt dev "$crate") >"$log" 2>&1 || status=$?
-    first=$(grep -m 1 -o '^[^ ]*: error.*' "$log" | sed "s|^$top/$copy/crates/$crate/||" | cut -c 1-160)
+    first=$(grep -m 1 -e '^[^ ]*: error' -e '^note: [^ ]*:[0-9]*:[0-9]*:' "$log" | sed "s|$top/$copy/crates/$crate/||" | cut -c 1-160)
     if [ "$status" -ne 1 ] || ! grep -q '^logic=not-proved' "$log"; then
         echo "edits: $crate/$label is NOT refused (status $status)"
         return 1
