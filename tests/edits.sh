@@ -38,13 +38,13 @@ try() {
     (cd "$copy/crates/$crate" && put "$top/$edit") || { echo "edits: $crate/$label names no text that stands once"; return 1; }
     status=0
     (cd "$copy" && rt dev "$crate") >"$log" 2>&1 || status=$?
-    first=$(grep -m 1 -e '^[^ ]*: error' -e '^note: [^ ]*:[0-9]*:[0-9]*:' "$log" | sed "s|$top/$copy/crates/$crate/||" | cut -c 1-160)
+    first=$(grep -m 1 -e '^[^ ]*: error' -e '^note: [^ ]*:[0-9]*:[0-9]*:' "$log" | sed "s|$top/$copy/crates/$crate/||")
     if [ "$status" -ne 1 ] || ! grep -q '^logic=not-proved' "$log"; then
         echo "edits: $crate/$label is NOT refused (status $status)"
         return 1
     fi
     case $first in *'has no `Need-'*) echo "edits: $crate/$label only makes a proof file unfit: $first"; return 1 ;; esac
-    echo "edits: $crate/$label is refused: $first"
+    echo "edits: $crate/$label is refused: $first" | cut -c 1-200
 }
 
 # One crate, in a folder of its own: the others are links.

@@ -1,21 +1,19 @@
 -- The chain of free slots: as it was where its slots are; with as many steps as it has slots; without its first slot, and with one more before it.
 use mathlib.Core.Path.{_≡_, refl, sym, ap, _∙_}
-use mathlib.Core.Bool.{Bool, true, false}
+use mathlib.Core.Bool.{true}
 use mathlib.Core.List.{List}
 use Prim.Native.Nat.{ℕ, zero, suc, _+_, _≤_, _<_}
 use native.Mathlib.Omega.{arith}
 use native.Mathlib.Decide.{ℕ-discrete}
-use lib.Dec.{eqb}
 use lib.ListN.{take}
 use borrow.Author.Tests.{eqb-true}
-use Rattle.plain.proofs.Logic.{cut}
 use Rattle.pool.specs.Slot.{slotOf, kindOf, nextOf}
 use Rattle.pool.proofs.Slots.{head-same}
 use Rattle.tree.specs.Tree.{hit}
 use Rattle.tree.proofs.Size.{sumBelow, below-add, hits-once}
 use Rattle.tree.proofs.Frame.{hit-self}
 use Rattle.memory.specs.Formed.{frees, chained}
-use Rattle.memory.proofs.Chain.{chain-end, frees-end, chain-none, frees-none, chain-on, frees-on, chain-here}
+use Rattle.memory.proofs.Chain.{chain-end, frees-end, chain-none, chain-on, frees-on, chain-here}
 
 -- ── steps ──
 

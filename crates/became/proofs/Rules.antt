@@ -1,11 +1,10 @@
 -- The rules by which edits are put together: another name for what was used, more spent, one after another, beside others, and among
 -- siblings.
 use mathlib.Core.Path.{_≡_, sym, ap, _∙_}
-use mathlib.Core.Bool.{Bool, true}
+use mathlib.Core.Bool.{true}
 use mathlib.Core.List.{List, _++_}
 use Prim.Native.Nat.{ℕ, _+_, _≤_}
 use native.Mathlib.Omega.{arith}
-use native.Mathlib.Decide.{ℕ-discrete}
 use lib.ListN.{length}
 use Rattle.pool.specs.declared.Kid.{Kid}
 use Rattle.tree.specs.Tree.{every, uses}

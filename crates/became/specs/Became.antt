@@ -7,8 +7,8 @@ use lib.ListN.{length, take, drop}
 use Rattle.plain_note.specs.Note.{need}
 use Rattle.pool.specs.declared.Kid.{Kid}
 use Rattle.pool.specs.Slot.{slotOf, slotsAt}
-use Rattle.tree.specs.Tree.{joinOver, sumOver, every, uses}
-use Rattle.tree.specs.Kids.{below, fine}
+use Rattle.tree.specs.Tree.{joinOver, sumOver, uses}
+use Rattle.tree.specs.Kids.{below}
 use Rattle.tree.proofs.Size.{sumBelow}
 use Rattle.note_head.specs.Head.{nOf, freeOf}
 use Rattle.memory.specs.Formed.{frees, chained}

@@ -1,32 +1,28 @@
 -- The edits of `pack_text`: each is accepted, and what they leave is `packed`.
 use mathlib.Core.Path.{_≡_, refl, sym, ap, subst, _∙_}
-use mathlib.Core.Bool.{true, false, not}
+use mathlib.Core.Bool.{true, false}
 use mathlib.Core.List.{List, [], _++_, append-nil}
 use Prim.Native.Nat.{ℕ, _+_, _-_, _≤_, _<_}
 use native.Mathlib.Omega.{arith}
-use lib.ListN.{length, take, drop, length-append, drop-of-length-le}
-use lib.Seq.{length-take-le, take-all, take-at}
+use lib.ListN.{length, take, drop, drop-of-length-le}
+use lib.Seq.{length-take-le, take-all}
 use borrow.Author.Tests.{le-leb, lt-leb}
 use Rattle.plain.specs.Utf8.{validUtf8}
 use Rattle.plain.specs.Place.{isBoundary}
 use Rattle.plain.specs.Edit.{replaced}
-use Rattle.plain.specs.Outcome.{Outcome, Outcome.value, past, kept, mapped}
+use Rattle.plain.specs.Outcome.{Outcome, Outcome.value, kept, mapped}
 use Rattle.plain.proofs.Place.{boundary-0, boundary-end}
 use Rattle.answer.specs.Answers.{number}
-use Rattle.answer.specs.declared.Refusal.{Refusal}
 use Rattle.answer.specs.declared.Number.{Number}
 use Rattle.answer.specs.declared.Number.the-variants as Number·case
-use Rattle.leaf_bytes.specs.Leaf.{Leaf, written}
-use Rattle.leaf_bytes.proofs.Opened.{value-never, value-is}
-use Rattle.node_children.proofs.Rules.{two-passed, past-no}
 use Rattle.crlf.specs.Break.{atIndex, prevBreak}
 use Rattle.crlf.proofs.Laws.{index-value}
 use Rattle.crlf.proofs.Breaks.{break-boundary}
 use Rattle.node_text.proofs.Texts.{edited-accepted}
 use Rattle.pool.specs.Slot.{lenOf, regionOf}
 use Rattle.pool.proofs.Slots.{region-length}
-use Rattle.nodes.specs.Node.{isLeaf, textOf, leafPut}
-use Rattle.nodes.specs.Calls.{textRead, leafEdited, LeafWrote}
+use Rattle.nodes.specs.Node.{textOf, leafPut}
+use Rattle.nodes.specs.Calls.{leafEdited, LeafWrote}
 use Rattle.child_info.specs.Leaves.{LeafText, TwoLeaves}
 use Rattle.compact.specs.Pack.{fits, moved, packed}
 use Rattle.nodes.proofs.Heads.{leaf-says}

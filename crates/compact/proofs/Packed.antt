@@ -14,13 +14,11 @@ use Rattle.plain.proofs.Logic.{cut}
 use Rattle.plain.proofs.Utf8.{valid-append}
 use Rattle.crlf.specs.Break.{isBreak}
 use Rattle.crlf.proofs.Breaks.{prev-below, prev-breaks, valid-break}
-use Rattle.pool.specs.Slot.{slotStart, slotOf, lenOf, regionOf}
-use Rattle.pool.proofs.Slots.{region-length}
-use Rattle.nodes.specs.Node.{isLeaf, textOf, leafPut}
+use Rattle.pool.specs.Slot.{slotStart, slotOf}
+use Rattle.nodes.specs.Node.{textOf, leafPut}
 use Rattle.child_info.specs.Leaves.{LeafText, TwoLeaves}
 use Rattle.child_info.proofs.TextRead.{text-size}
 use Rattle.compact.specs.Pack.{fits, moved, filled, packed}
-use Rattle.nodes.proofs.Heads.{leaf-says}
 use Rattle.nodes.proofs.Put.{leaf-size, leaf-put, leaf-text, leaf-others, Same, same}
 
 -- ── a leaf with text ──

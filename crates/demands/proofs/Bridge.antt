@@ -1,18 +1,15 @@
 -- What each public function promises is a step of a sequence: an edit, a mark set or dropped, and every call that reads.
 use mathlib.Core.Path.{_≡_, refl, sym, ap, subst, _∙_}
-use mathlib.Core.Bool.{Bool, true, false, cond}
+use mathlib.Core.Bool.{Bool, true, false}
 use mathlib.Core.List.{List, []}
 use Prim.Native.Nat.{ℕ}
-use native.Mathlib.Omega.{arith}
 use lib.IntN.{ℤ}
-use lib.ListN.{length, drop}
 use Rattle.plain.specs.Place.{Measure}
 use Rattle.plain.specs.Outcome.{Outcome, Outcome.value, Outcome.refused, mapped}
 use Rattle.plain.proofs.Outcome.{clash}
-use Rattle.plain_note.specs.Note.{Note, need, mostBy, converted, copied, readFrom, previewed, opened}
+use Rattle.plain_note.specs.Note.{Note, mostBy, converted, copied, readFrom, previewed, opened}
 use Rattle.plain_calls.specs.Marks.{standing, lineBeside}
-use Rattle.plain_calls.specs.Calls.{Call, Call.insert, Call.remove, Call.setMark, Call.dropMark, Call.look, Look, Look.total, Look.slots, Look.edits, Look.convert, Look.copy, Look.read, Look.preview, Look.place, Look.line, Said, Said.done, Said.is, Said.by, Said.bytes, inserting, removing, setting, dropping, looking, said, called}
-use Rattle.note_head.specs.Head.{nOf}
+use Rattle.plain_calls.specs.Calls.{Call.insert, Call.remove, Call.setMark, Call.dropMark, Call.look, Look, Look.total, Look.slots, Look.edits, Look.convert, Look.copy, Look.read, Look.preview, Look.place, Look.line, Said, Said.done, Said.is, Said.by, Said.bytes, inserting, removing, setting, dropping, looking, said, called}
 use Rattle.memory.specs.Formed.{wellFormed, noteOf, ofNote}
 use Rattle.memory.proofs.Formed.{note-called, note-refused}
 use Rattle.answer.specs.declared.Verdict.{Verdict}

@@ -1,10 +1,9 @@
 -- Demand 2: after each call of any sequence the memory is well formed and its note is the plain note after the same calls, and every answer, those of
 -- totals and conversions among them, is the one counted on the plain note.
-use mathlib.Core.Path.{_≡_, refl, sym, ap, subst, _∙_}
-use mathlib.Core.Bool.{Bool, true, false}
+use mathlib.Core.Path.{_≡_, refl, sym, ap, _∙_}
+use mathlib.Core.Bool.{true, false}
 use mathlib.Core.List.{List, [], _∷_}
 use Prim.Native.Nat.{ℕ}
-use native.Mathlib.Omega.{arith}
 use Rattle.plain.specs.Outcome.{Outcome, Outcome.value, Outcome.refused, mapped}
 use Rattle.plain_note.specs.Note.{Note}
 use Rattle.plain_calls.specs.Calls.{Call, Call.look, Look, Said, called, looking, left, afterAll}

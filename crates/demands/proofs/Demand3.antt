@@ -1,25 +1,21 @@
 -- Demand 3, over sequences of calls on lent memory. It speaks of demand 2's note, so that a program which does nothing does not meet it.
 use mathlib.Core.Path.{_≡_, refl, sym, ap, subst, _∙_}
 use mathlib.Core.Bool.{true}
-use mathlib.Core.List.{List, [], _∷_, _++_}
+use mathlib.Core.List.{List, _∷_, _++_}
 use Prim.Native.Nat.{ℕ, _≤_, _<_}
-use lib.IntN.{ℤ}
-use lib.ListN.{length}
 use Rattle.plain.specs.Place.{Measure, Measure.line, countAt}
 use native.Mathlib.Omega.{arith}
 use Rattle.plain.specs.Outcome.{Outcome, Outcome.value, Outcome.refused, mapped}
-use Rattle.plain_note.specs.Note.{Note, Mark.at, opened}
+use Rattle.plain_note.specs.Note.{Note, Mark.at}
 use Rattle.plain_calls.specs.Marks.{markOf}
 use Rattle.plain_calls.specs.Calls.{Call, Call.setMark, Said, Said.is, Said.by, called, left, afterAll}
-use Rattle.plain_calls.specs.Fits.{Fits}
 use Rattle.line_change.specs.Change.{minus}
-use Rattle.plain_history.specs.History.{Told, begun, toldAll}
+use Rattle.plain_history.specs.History.{begun, toldAll}
 use Rattle.plain_history.specs.Words.{Undropped, Stood}
 use Rattle.plain_history.specs.Shift.{Edit, asCall, startOf, endOf, later, more}
 use Rattle.plain_history.proofs.Words.{mark-stands, set-mark-stands}
 use Rattle.plain_history.proofs.Shift.{counts-stay, counts-move, lines-answered}
-use Rattle.memory.specs.Formed.{wellFormed, noteOf, ofNote}
-use Rattle.memory.proofs.Formed.{note-called}
+use Rattle.memory.specs.Formed.{wellFormed, noteOf}
 use Rattle.demands.specs.Steps.{Step, Steps, callsOf}
 use Rattle.demands.proofs.Fits.{formed-fits}
 use Rattle.demands.proofs.Demand2.{Stepped, stepped, followed}

@@ -12,7 +12,7 @@ use Rattle.plain.specs.Place.{bytes}
 use Rattle.plain.specs.Outcome.{Outcome.value, Outcome.refused, Rule, ruled, past}
 use Rattle.plain.proofs.Logic.{or-left, or-right, or-none}
 use Rattle.plain.proofs.Outcome.{rule-applies, rule-passed, one-applies, one-passed}
-use Rattle.plain_note.specs.Note.{Note, limit, insertRules}
+use Rattle.plain_note.specs.Note.{limit, insertRules}
 use Rattle.plain_note.specs.Edits.{removeRules}
 use Rattle.note_head.specs.Head.{nOf, rootOf}
 use Rattle.memory.specs.Formed.{wellFormed, noteOf, ofNote}

@@ -1,9 +1,9 @@
 -- What C is told of a call, from what the call promises.
-use mathlib.Core.Path.{_≡_, sym, ap, subst, _∙_}
+use mathlib.Core.Path.{_≡_, ap, subst, _∙_}
 use mathlib.Core.List.{List}
 use Prim.Native.Nat.{ℕ}
 use lib.IntN.{ℤ}
-use Rattle.plain.specs.Outcome.{Outcome, Outcome.value, Outcome.refused, mapped, kept}
+use Rattle.plain.specs.Outcome.{Outcome, kept}
 use Rattle.plain_note.specs.Note.{Note}
 use Rattle.memory.specs.Formed.{ofNote}
 use Rattle.note_promise.specs.Called.{EditCalled, MarkCalled}

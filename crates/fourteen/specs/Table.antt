@@ -5,7 +5,7 @@ use mathlib.Core.List.{List, [], _∷_}
 use Prim.Native.Nat.{ℕ}
 use lib.IntN.{ℤ, pos, negsuc}
 use lib.ListN.{length, replicate}
-use Rattle.plain.specs.Place.{Measure, Measure.byte, Measure.char, Measure.unit, Measure.line}
+use Rattle.plain.specs.Place.{Measure.byte, Measure.char, Measure.unit, Measure.line}
 use Rattle.plain.specs.Outcome.{Outcome, Outcome.value, Outcome.refused}
 use Rattle.plain_note.specs.Note.{Note, opened}
 use Rattle.plain_calls.specs.Calls.{Look, Look.total, Look.convert, Look.place, Look.line as beside, Call, Call.insert, Call.remove, Call.setMark, Call.look, Said, Said.is, Said.by, called, afterAll}

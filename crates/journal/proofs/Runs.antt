@@ -1,16 +1,15 @@
 -- THE PROGRAM. Turn by turn, with whatever chunks of input come between, what is written is the listing of all the input.
-use mathlib.Core.Path.{_≡_, refl, sym, ap, _∙_}
+use mathlib.Core.Path.{_≡_, sym, ap, _∙_}
 use mathlib.Core.Bool.{Bool, true, false, cond, false≢true}
-use mathlib.Core.List.{List, [], _∷_, _++_, append-assoc, append-nil}
+use mathlib.Core.List.{List, [], _++_, append-assoc, append-nil}
 use Prim.Native.Nat.{ℕ, _+_}
-use lib.ListN.{length, take}
-use Rattle.plain_note.specs.Note.{Note, opened}
-use Rattle.memory.specs.Formed.{wellFormed, noteOf}
+use lib.ListN.{take}
+use Rattle.plain_note.specs.Note.{Note}
+use Rattle.memory.specs.Formed.{wellFormed}
 use Rattle.plain_journal.specs.Fields.{fieldsOf}
-use Rattle.plain_journal.specs.Replay.{slots}
 use Rattle.plain_journal.specs.Listing.{listed, listing}
 use Rattle.journal.specs.declared.State.{State}
-use Rattle.journal.specs.Turns.{toCome, started, Advances}
+use Rattle.journal.specs.Turns.{toCome}
 use Rattle.journal.specs.Runs.{Runs, Runs.starts, Runs.turns, Runs.reads, Runs.ends}
 
 -- what is written, and what is still to come, of whatever more comes behind

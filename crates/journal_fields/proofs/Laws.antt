@@ -1,12 +1,11 @@
 -- What became of a field, from what it asks for and from the step of its call.
-use mathlib.Core.Path.{_≡_, refl, sym, ap, subst⁻¹, _∙_}
+use mathlib.Core.Path.{_≡_, refl, ap, subst⁻¹, _∙_}
 use mathlib.Core.List.{List}
 use Prim.Native.Nat.{ℕ}
 use Rattle.plain.specs.Outcome.{Outcome, Outcome.value, Outcome.refused, mapped}
 use Rattle.plain_calls.specs.Calls.{Call, Said}
 use Rattle.demands.specs.Steps.{Step}
 use Rattle.plain_journal.specs.Replay.{codeOf}
-use Rattle.journal_fields.specs.declared.Done.{Done}
 use Rattle.journal_fields.specs.declared.Done.the-variants.{Bad, Code}
 use Rattle.journal_fields.specs.Applied.{Applied}
 

@@ -13,7 +13,7 @@ use Rattle.answer.specs.declared.Number.{Number}
 use Rattle.answer.specs.declared.Number.the-variants as Number·case
 use Rattle.leaf_bytes.specs.Leaf.{leafOf}
 use Rattle.leaf_bytes.specs.Raw.{replacing}
-use Rattle.node_text.specs.Texts.{offChars, noText, edited}
+use Rattle.node_text.specs.Texts.{offChars, noText}
 use Rattle.node_text.proofs.Checks.{edit-refused, edit-replaces}
 use Rattle.pool.specs.Slot.{lenOf, regionOf}
 use Rattle.pool.proofs.Slots.{region-length}

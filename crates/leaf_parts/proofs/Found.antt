@@ -5,9 +5,8 @@ use mathlib.Core.List.{List, []}
 use Prim.Native.Nat.{ℕ, _+_, _-_, _*_, _≤_, _<_}
 use native.Mathlib.Omega.{arith}
 use lib.ListN.{length, take, drop, length-drop}
-use lib.Seq.{length-take-le, take-all}
+use lib.Seq.{length-take-le}
 use Rattle.plain.specs.Outcome.{Outcome, Outcome.value, Outcome.refused, part, mapped}
-use Rattle.plain_note.specs.Note.{need}
 use Rattle.answer.specs.Answers.{refusalNumber}
 use Rattle.answer.specs.declared.Refusal.{Refusal}
 use Rattle.text_info.specs.declared.TextSum.{TextSum}
@@ -20,7 +19,7 @@ use Rattle.nodes.proofs.Laid.{text-lent}
 use Rattle.tree_search.specs.declared.Spot.{Spot}
 use Rattle.tree_search.specs.declared.Spot.the-variants as Spot·case
 use Rattle.tree_search.specs.Search.{spot, leafAt, Bounded}
-use Rattle.note_head.specs.Head.{nOf, rootOf, heightOf, ownOf}
+use Rattle.note_head.specs.Head.{rootOf, heightOf}
 use Rattle.leaf_parts.specs.Parts.{leafText, byteIn, spotOf, charsBehind, bytesBehind, startOf, fromChar, fromByte, byteOf}
 
 -- ── a leaf's text ──

@@ -13,7 +13,7 @@ ghost use mathlib.Core.Path.{_≡_};
 ghost use Prim.Native.Nat.{_-_, _≤_, _<_};
 ghost use lib.ListN.{length, drop};
 ghost use Rattle.answer.specs.Answers.{number};
-ghost use Rattle.note_head.specs.Head.{rootOf, ownOf};
+ghost use Rattle.note_head.specs.Head.{rootOf};
 ghost use Rattle.tree_search.specs.Search.{spot, Bounded};
 ghost use Rattle.leaf_parts.specs.Parts.{leafText, byteIn, spotOf, fromChar, fromByte, byteOf};
 

@@ -1,18 +1,15 @@
 -- All marks moved: what each reads then, and that nothing but their places has changed.
 use mathlib.Core.Path.{_≡_, refl, sym, ap, _∙_}
-use mathlib.Core.Logic.{_⊎_, inl, inr, ⊎-elim}
 use mathlib.Core.List.{List, map}
 use Prim.Native.Nat.{ℕ, zero, suc, _%_, _^_, _≤_, _<_}
 use native.Mathlib.Omega.{arith}
 use native.Mathlib.Nat.{not-suc-le-zero}
 use lib.ListN.{length, getD, length-map, List·getD-map}
-use borrow.Author.Tests.{eqb-true, eqb-false}
 use Rattle.plain.proofs.Logic.{cut}
-use Rattle.plain_note.specs.Note.{Mark, Mark.free, Mark.at}
+use Rattle.plain_note.specs.Note.{Mark.free, Mark.at}
 use Rattle.plain_calls.specs.Marks.{moved}
 use Rattle.plain_calls.proofs.Marks.{same-or-not}
 use Rattle.note_head.specs.Head.{liveAt, placeAt, markAt, marksFrom}
-use Rattle.head_write.specs.Writes.{placePut}
 use Rattle.marks.specs.MarkBytes.{markMoved, marksMoved}
 use Rattle.marks.proofs.Rules.{moves-live, moves-free}
 use Rattle.marks.proofs.Beside.{Beside, beside-same, beside-twice}

@@ -1,7 +1,7 @@
 -- What the tests of the code decide: whether a mark is live, and what refuses a call.
-use mathlib.Core.Path.{_≡_, refl, sym, ap, _∙_}
-use mathlib.Core.Bool.{Bool, true, false, not, _||_, cond}
-use mathlib.Core.List.{List, [], _∷_}
+use mathlib.Core.Path.{_≡_, refl, ap, _∙_}
+use mathlib.Core.Bool.{Bool, not, _||_, cond}
+use mathlib.Core.List.{List}
 use Prim.Native.Nat.{ℕ, suc, _%_, _^_, _≤_, _<_}
 use native.Mathlib.Omega.{arith}
 use lib.Dec.{leb, eqb}
@@ -15,7 +15,7 @@ use Rattle.note_head.specs.Head.{editOf, liveAt, placeAt, markAt, marksFrom}
 use Rattle.answer.specs.declared.Verdict.{Verdict}
 use Rattle.pool.specs.Slot.{slotsAt}
 use Rattle.pool.specs.Calls.{Wrote}
-use Rattle.pool.proofs.Rules.{wrote-refused, wrote-done}
+use Rattle.pool.proofs.Rules.{wrote-done}
 use Rattle.head_write.specs.Writes.{numberPut, livePut, placePut, numberSet, liveSet}
 use Rattle.head_write.proofs.Laid.{mark-it, live-there, number-there, number-it}
 use Rattle.marks.specs.MarkBytes.{markPut, markSet, standingIn, markMoved, marksMoved, editedPut, edited}

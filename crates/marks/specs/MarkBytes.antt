@@ -1,5 +1,5 @@
 -- The marks in the bytes of the memory's head: where one stands, one set, and all moved by an edit.
-use mathlib.Core.Bool.{Bool, not, _||_, cond}
+use mathlib.Core.Bool.{not, _||_, cond}
 use mathlib.Core.List.{List, [], _∷_}
 use Prim.Native.Nat.{ℕ, zero, suc, _+_, _%_, _^_}
 use lib.Dec.{leb, eqb}

@@ -1,17 +1,16 @@
 -- A well-formed memory has a low tree, and slots that are free: what an edit needs is always there.
-use mathlib.Core.Path.{_≡_, refl, sym, ap, _∙_}
+use mathlib.Core.Path.{_≡_, refl, sym, ap}
 use mathlib.Core.Bool.{Bool, true, false, _&&_}
 use mathlib.Core.List.{List}
-use Prim.Native.Nat.{ℕ, zero, suc, _+_, _-_, _*_, _^_, _≤_, _<_}
+use Prim.Native.Nat.{ℕ, zero, suc, _+_, _-_, _^_, _≤_, _<_}
 use native.Mathlib.Omega.{arith}
 use lib.Dec.{eqb, leb}
 use lib.ListN.{length}
 use borrow.Author.Tests.{eqb-true, leb-true}
 use Rattle.plain.proofs.Logic.{cut, and-left, and-right}
 use Rattle.plain_note.specs.Note.{need, limit}
-use Rattle.pool.specs.Slot.{slotStart}
 use Rattle.tree.specs.Tree.{uses, bytesBelow, sound, leastRoot}
-use Rattle.tree.proofs.Size.{nodes, leaves, sumBelow, slots-used, root-nodes, root-bytes, root-leaves, below-add}
+use Rattle.tree.proofs.Size.{nodes, sumBelow, slots-used, root-nodes, root-bytes, root-leaves, below-add}
 use Rattle.nodes.proofs.Heads.{not-so}
 use Rattle.note_head.specs.Head.{nOf, heightOf, rootOf}
 use Rattle.memory.specs.Formed.{allBelow, noteBytes, treeRight, slotsRight, sizeRight, marksRight}

@@ -10,7 +10,7 @@ use lib.Seq.{length-take-le}
 use borrow.Author.Tests.{le-leb, lt-leb}
 use Rattle.plain.proofs.Logic.{and-none}
 use Rattle.plain_note.specs.Note.{need}
-use Rattle.note_head.specs.Head.{nOf, ownOf}
+use Rattle.note_head.specs.Head.{nOf}
 use Rattle.note_head.proofs.Own.{own-n, own-front}
 use Rattle.memory.specs.Formed.{needMet, wellFormed}
 use Rattle.memory.specs.Checks.{ownRight, Ready}

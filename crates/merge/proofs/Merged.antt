@@ -6,7 +6,7 @@ use Prim.Native.Nat.{ℕ, _≤_, _<_}
 use native.Mathlib.Omega.{arith}
 use lib.ListN.{length}
 use borrow.Author.Tests.{eqb-false}
-use Rattle.plain.specs.Outcome.{Outcome, Outcome.value, Outcome.refused, Rule, ruled, kept, mapped}
+use Rattle.plain.specs.Outcome.{Outcome, Outcome.value, Outcome.refused, Rule, ruled, mapped}
 use Rattle.answer.specs.Answers.{truth, refusalNumber}
 use Rattle.answer.specs.declared.Refusal.{Refusal}
 use Rattle.answer.specs.declared.Truth.{Truth}
@@ -17,7 +17,7 @@ use Rattle.node_children.specs.declared.NodeChildren.{NodeChildren}
 use Rattle.node_children.specs.declared.Listed.{Listed}
 use Rattle.node_children.specs.Kids.{kids, listOf, Listing}
 use Rattle.node_children.proofs.Lists.{kids-of}
-use Rattle.nodes.specs.Node.{isList, childrenOf, countsOf}
+use Rattle.nodes.specs.Node.{isList, childrenOf}
 use Rattle.nodes.specs.Calls.{loaded}
 use Rattle.nodes.proofs.Put.{Same, same}
 use Rattle.child_info.specs.Kin.{slotIn}

@@ -1,15 +1,15 @@
 -- Two nodes joined: both can be counted afterwards, and no other slot changed.
 use mathlib.Core.Path.{_≡_, refl, sym, ap, subst, _∙_}
-use mathlib.Core.Bool.{Bool, true, false, not, _||_, cond}
+use mathlib.Core.Bool.{Bool, true, false, _||_, cond}
 use mathlib.Core.List.{List, [], _∷_, _++_}
-use Prim.Native.Nat.{ℕ, _+_, _-_, _/_, _≤_, _<_}
+use Prim.Native.Nat.{ℕ, _+_, _-_, _≤_}
 use native.Mathlib.Omega.{arith}
-use lib.Dec.{eqb, leb}
+use lib.Dec.{leb}
 use lib.ListN.{length, take, drop, length-append, length-take, length-drop}
 use lib.Seq.{length-take-le, getD-take, getD-drop}
-use borrow.Author.Tests.{leb-true, leb-false, ltb-false, eqb-false}
+use borrow.Author.Tests.{leb-true, ltb-false, eqb-false}
 use Rattle.plain.specs.Utf8.{validUtf8}
-use Rattle.plain.specs.Outcome.{Outcome, Outcome.value, ruled, past}
+use Rattle.plain.specs.Outcome.{Outcome.value, ruled, past}
 use Rattle.plain.proofs.Logic.{neither}
 use Rattle.plain.proofs.Outcome.{accepted, all-accepted, rules-passed}
 use Rattle.plain.proofs.Utf8.{valid-append}
@@ -18,17 +18,16 @@ use Rattle.leaf_bytes.proofs.Split.{half-le, half-breaks}
 use Rattle.node_text.proofs.Parts.{cut-parted}
 use Rattle.pool.specs.declared.Kid.{Kid}
 use Rattle.pool.specs.Slot.{slotStart, slotOf, noKid, Fits}
-use Rattle.node_children.specs.Kids.{kids, listOf}
+use Rattle.node_children.specs.Kids.{listOf}
 use Rattle.node_children.specs.Calls.{leftOf}
 use Rattle.node_children.proofs.Lists.{kids-of}
-use Rattle.nodes.specs.Node.{isLeaf, isList, textOf, childrenOf, countsOf, tooWide, totalOf, lost, ill, leafPut, listPut, Fitting}
+use Rattle.nodes.specs.Node.{isList, textOf, childrenOf, countsOf, tooWide, totalOf, lost, ill, leafPut, listPut}
 use Rattle.nodes.specs.Calls.{counted}
 use Rattle.nodes.proofs.Heads.{leaf-says, list-says, list-no-leaf}
 use Rattle.nodes.proofs.Put.{leaf-size, leaf-put, leaf-text, leaf-others, list-size, list-put, list-children, list-others}
 use Rattle.nodes.proofs.Fitted.{list-fits}
 use Rattle.nodes.proofs.Accepted.{counted-is}
 use Rattle.child_info.specs.Leaves.{TwoLeaves, Alike, Alike.leaves, Alike.lists}
-use Rattle.child_info.proofs.TextRead.{text-size}
 use Rattle.child_info.proofs.Found.{text-counted}
 use Rattle.merge.specs.Join.{parted, joinedText, shared, joinedKids, joined, AllFit}
 use Rattle.merge.proofs.Settled.{counted-same}

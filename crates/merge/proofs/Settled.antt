@@ -1,10 +1,9 @@
 -- A list brought up to date when two of its children were joined: each is counted anew where it lies.
-use mathlib.Core.Path.{_≡_, refl, sym, ap, _∙_}
-use mathlib.Core.Bool.{Bool, true, false, cond}
-use mathlib.Core.List.{List, [], _∷_, _++_}
-use Prim.Native.Nat.{ℕ, _+_, _-_, _*_, _≤_, _<_}
+use mathlib.Core.Path.{_≡_, sym, ap, _∙_}
+use mathlib.Core.Bool.{true}
+use mathlib.Core.List.{List}
+use Prim.Native.Nat.{ℕ, _+_, _-_, _≤_, _<_}
 use native.Mathlib.Omega.{arith}
-use lib.Dec.{eqb}
 use lib.ListN.{length, take, drop, getD, length-append, length-drop, List·getD-append}
 use lib.Seq.{length-take-le, getD-take}
 use borrow.Author.Tests.{eqb-false}
@@ -23,10 +22,10 @@ use Rattle.node_children.specs.Kids.{kids, listOf, Taking}
 use Rattle.node_children.specs.Calls.{without, removed}
 use Rattle.node_children.proofs.Lists.{kids-of}
 use Rattle.node_children.proofs.Rules.{removed-done}
-use Rattle.nodes.specs.Node.{isList, childrenOf, countsOf, listPut, Fitting}
+use Rattle.nodes.specs.Node.{isList, childrenOf, countsOf, listPut}
 use Rattle.nodes.specs.Calls.{counted, stored, Fitted}
 use Rattle.nodes.proofs.Heads.{not-outside, list-says, list-is}
-use Rattle.nodes.proofs.Put.{list-size, list-len, list-put, list-children, list-others, Same, same}
+use Rattle.nodes.proofs.Put.{list-size, list-len, list-put, list-children, list-others, same}
 use Rattle.nodes.proofs.Accepted.{counted-is, counted-only}
 use Rattle.child_info.specs.Kin.{slotIn}
 use Rattle.child_info.specs.Renewed.{slotAt, renewed}

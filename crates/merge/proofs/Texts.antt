@@ -3,13 +3,12 @@
 use mathlib.Core.Path.{_≡_, refl, sym, ap, subst, _∙_}
 use mathlib.Core.Bool.{Bool, true, false, true≢false, _||_, cond}
 use mathlib.Core.List.{List, [], _∷_, _++_}
-use Prim.Native.Nat.{ℕ, _+_, _-_, _/_, _≤_, _<_}
+use Prim.Native.Nat.{ℕ, _+_, _-_, _/_, _≤_}
 use native.Mathlib.Omega.{arith}
 use lib.Dec.{leb}
 use lib.ListN.{length, take, drop, length-append, length-drop, take-append-drop}
 use lib.Seq.{length-take-le}
-use borrow.Author.Tests.{leb-true, leb-false, ltb-false, eqb-false}
-use Rattle.plain.specs.Utf8.{validUtf8}
+use borrow.Author.Tests.{leb-true, ltb-false, eqb-false}
 use Rattle.plain.specs.Outcome.{Outcome, Outcome.value, ruled, past}
 use Rattle.plain.proofs.Logic.{neither}
 use Rattle.plain.proofs.Outcome.{accepted, all-accepted, rules-passed}
@@ -24,7 +23,7 @@ use Rattle.node_children.specs.Calls.{leftOf}
 use Rattle.node_children.proofs.Lists.{kids-of}
 use Rattle.nodes.specs.Node.{isList, textOf, childrenOf, tooWide, totalOf, leafPut, listPut}
 use Rattle.nodes.proofs.Heads.{leaf-says, list-says, list-no-leaf}
-use Rattle.nodes.proofs.Put.{leaf-size, leaf-text, leaf-others, list-size, list-children, list-others, Same, same}
+use Rattle.nodes.proofs.Put.{leaf-size, leaf-text, leaf-others, list-size, list-children, list-others, same}
 use Rattle.nodes.proofs.Fitted.{list-fits}
 use Rattle.child_info.specs.Leaves.{TwoLeaves}
 use Rattle.merge.specs.Join.{parted, joinedText, shared, joinedKids, joined, AllFit}

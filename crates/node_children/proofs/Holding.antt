@@ -5,7 +5,7 @@ use Prim.Native.Nat.{ℕ, _+_, _-_, _≤_, _<_}
 use native.Mathlib.Omega.{arith}
 use lib.ListN.{length, take, drop, getD, length-append, length-drop}
 use lib.Seq.{length-take-le}
-use Rattle.plain.specs.Outcome.{Outcome, Outcome.value, kept, mapped}
+use Rattle.plain.specs.Outcome.{Outcome, kept, mapped}
 use Rattle.pool.specs.declared.Kid.{Kid}
 use Rattle.pool.specs.Slot.{noKid}
 use Rattle.node_children.specs.declared.NodeChildren.{NodeChildren}

@@ -1,9 +1,9 @@
 -- An accepted edit that changes the text: from what the edit of the tree left, and the marks moved and the edit number raised behind it.
-use mathlib.Core.Path.{_≡_, refl, sym, ap, subst, _∙_}
+use mathlib.Core.Path.{_≡_, sym, ap, subst, _∙_}
 use mathlib.Core.Bool.{Bool, true, false, _&&_, cond}
 use mathlib.Core.Logic.{_⊎_, inl, inr, ⊎-elim}
 use mathlib.Core.List.{List, map}
-use Prim.Native.Nat.{ℕ, _+_, _-_, _*_, _≤_, _<_}
+use Prim.Native.Nat.{ℕ, _+_, _-_, _≤_, _<_}
 use native.Mathlib.Omega.{arith}
 use lib.Dec.{eqb}
 use lib.ListN.{length, drop}
@@ -13,13 +13,12 @@ use Rattle.plain.specs.Place.{bytes}
 use Rattle.plain.specs.Edit.{replaced}
 use Rattle.plain.proofs.Utf8.{valid-sound}
 use Rattle.plain.proofs.Edit.{replaced-length}
-use Rattle.plain_note.specs.Note.{Note, Mark, need, limit}
+use Rattle.plain_note.specs.Note.{Note, need, limit}
 use Rattle.plain_calls.specs.Marks.{movedTo, moved, raised}
 use Rattle.plain_calls.specs.Calls.{edited}
 use Rattle.plain_calls.proofs.Marks.{moved-within}
-use Rattle.note_head.specs.Head.{nOf, editOf, rootOf, heightOf, freeOf, liveAt, placeAt, marksFrom, ownOf}
+use Rattle.note_head.specs.Head.{nOf, editOf, liveAt, placeAt, marksFrom, ownOf}
 use Rattle.note_head.proofs.Own.{own-n, own-edit, own-marks}
-use Rattle.head_write.specs.Writes.{numberPut}
 use Rattle.head_write.proofs.Written.{edit-set, edit-around, edit-n, edit-root, edit-height, edit-free}
 use Rattle.memory.specs.Formed.{noteBytes, wellFormed, noteOf}
 use Rattle.leaf_parts.proofs.Fronts.{chars-bytes}
@@ -32,7 +31,7 @@ use Rattle.marks.proofs.Beside.{beside-n, beside-root, beside-height, beside-fr
 use Rattle.marks.proofs.Moves.{Moved, all-moved, moved-place, moved-marks}
 use Rattle.note_promise.specs.Called.{Left}
 use Rattle.note_promise.proofs.Tree.{SameTree, same-held}
-use Rattle.note_promise.proofs.Shape.{Fine, Shaped, formed-fine, formed-shaped, shaped-formed, is-shaped}
+use Rattle.note_promise.proofs.Shape.{Fine, Shaped, formed-fine, shaped-formed, is-shaped}
 use Rattle.note_promise.proofs.Beside.{kept-followed}
 
 module _ (m : List ℕ) (ok : wellFormed m ≡ true) (s e : ℕ) (new : List ℕ) (low : s ≤ e) (high : e ≤ length (noteOf m .text))

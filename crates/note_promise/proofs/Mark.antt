@@ -1,6 +1,6 @@
 -- A mark set or dropped: the memory then, and the note in it.
-use mathlib.Core.Path.{_≡_, refl, sym, ap, subst, _∙_}
-use mathlib.Core.Bool.{true, false}
+use mathlib.Core.Path.{_≡_, sym, ap, subst, _∙_}
+use mathlib.Core.Bool.{true}
 use mathlib.Core.Logic.{_⊎_, inl, inr, ⊎-elim}
 use mathlib.Core.List.{List}
 use Prim.Native.Nat.{ℕ, _+_, _-_, _≤_, _<_}
@@ -8,7 +8,7 @@ use native.Mathlib.Omega.{arith}
 use lib.ListN.{length, drop, set}
 use lib.Seq.{drop-drop}
 use Rattle.plain.specs.Utf8.{decode}
-use Rattle.plain_note.specs.Note.{Note, Mark, Mark.free, Mark.at, need, limit}
+use Rattle.plain_note.specs.Note.{Mark, Mark.free, Mark.at, need, limit}
 use Rattle.plain_calls.specs.Calls.{marked}
 use Rattle.plain_calls.proofs.Marks.{same-or-not}
 use Rattle.note_head.specs.Head.{nOf, editOf, liveAt, placeAt, marksFrom, ownOf}

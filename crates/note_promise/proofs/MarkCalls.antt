@@ -1,19 +1,19 @@
 -- The promises of the calls on marks, from what their tests found in the memory's bytes.
 use mathlib.Core.Path.{_≡_, refl, sym, ap, subst, _∙_}
-use mathlib.Core.Bool.{Bool, true, false, not, _||_, cond}
+use mathlib.Core.Bool.{Bool, true, false}
 use mathlib.Core.Logic.{_⊎_, ⊎-elim}
 use mathlib.Core.List.{List, [], _∷_}
 use Prim.Native.Nat.{ℕ, _≤_, _<_}
 use native.Mathlib.Omega.{arith}
-use lib.Dec.{ltb, leb, eqb}
+use lib.Dec.{leb}
 use lib.ListN.{length, getD, List·getD-eq-default}
-use borrow.Author.Tests.{lt-ltb, le-ltb, le-leb, lt-leb, leb-false, eq-eqb, ne-eqb}
+use borrow.Author.Tests.{lt-ltb, le-ltb, le-leb, lt-leb}
 use Rattle.plain.specs.Count.{lineAt}
-use Rattle.plain.specs.Place.{Measure.char, Measure.line, countAt}
+use Rattle.plain.specs.Place.{Measure.char, Measure.line}
 use Rattle.plain.specs.Outcome.{Outcome, Outcome.value, Outcome.refused, ruled, past, mapped, kept}
 use Rattle.plain.proofs.Logic.{cut}
 use Rattle.plain.proofs.Outcome.{rule-applies, rule-passed, one-applies, one-passed, one-accepted}
-use Rattle.plain_note.specs.Note.{Note, Mark, Mark.free, Mark.at, placeBy, mostBy, converted}
+use Rattle.plain_note.specs.Note.{Note, Mark, Mark.free, Mark.at, converted}
 use Rattle.plain_calls.specs.Marks.{isFree, markOf, lowest, placeIn, standing, lineBeside}
 use Rattle.plain_calls.specs.Calls.{marked, setting, dropping}
 use Rattle.plain_calls.proofs.Marks.{same-or-not}

@@ -2,21 +2,17 @@
 use mathlib.Core.Path.{_≡_, refl, sym, ap, subst, _∙_}
 use mathlib.Core.Bool.{Bool, true, false, _&&_, cond}
 use mathlib.Core.List.{List, []}
-use Prim.Native.Nat.{ℕ, _≤_, _<_}
+use Prim.Native.Nat.{ℕ, _≤_}
 use native.Mathlib.Omega.{arith}
 use lib.Dec.{eqb}
 use lib.IntN.{ℤ}
 use lib.ListN.{length}
-use borrow.Author.Tests.{eq-eqb, ne-eqb}
 use Rattle.plain.specs.Utf8.{decode}
-use Rattle.plain.specs.Count.{lines}
 use Rattle.plain.specs.Edit.{replaced}
-use Rattle.plain.specs.Outcome.{Outcome, Outcome.value, Outcome.refused, mapped, kept}
+use Rattle.plain.specs.Outcome.{Outcome, Outcome.value, Outcome.refused, mapped}
 use Rattle.plain.proofs.Outcome.{clash}
 use Rattle.plain_note.specs.Note.{Note}
 use Rattle.plain_calls.specs.Calls.{edited, linesMore}
-use Rattle.plain_calls.proofs.Nothing.{edited-nothing}
-use Rattle.answer.specs.Answers.{refusalNumber}
 use Rattle.line_change.specs.Change.{change}
 use Rattle.line_change.specs.declared.Change.{Change}
 use Rattle.line_change.specs.declared.Change.the-variants as Change·case
@@ -26,7 +22,7 @@ use Rattle.held.specs.Held.{Kept}
 use Rattle.held.proofs.Keeps.{kept-same}
 use Rattle.edited.specs.Edited.{Holding, Edited}
 use Rattle.marks.specs.MarkBytes.{editedPut}
-use Rattle.note_promise.specs.Called.{Left, Called, EditCalled, MarkCalled, followed}
+use Rattle.note_promise.specs.Called.{Left, Called, EditCalled, followed}
 use Rattle.note_promise.proofs.Shape.{formed-shaped}
 use Rattle.note_promise.proofs.Edit.{edit-left, edit-head}
 

@@ -1,6 +1,6 @@
 -- Well formed but for the marks, and the marks besides: what the note's part then holds, and back.
-use mathlib.Core.Path.{_≡_, refl, sym, ap, subst, _∙_}
-use mathlib.Core.Bool.{Bool, true, _&&_}
+use mathlib.Core.Path.{_≡_, refl, sym, ap, _∙_}
+use mathlib.Core.Bool.{true}
 use mathlib.Core.Logic.{_⊎_, inl, inr, ⊎-elim}
 use mathlib.Core.List.{List}
 use Prim.Native.Nat.{ℕ, _+_, _≤_, _<_}
@@ -17,7 +17,7 @@ use Rattle.note_head.proofs.Own.{front-live, front-place, own-n, own-length}
 use Rattle.memory.specs.Formed.{frees, chained, noteBytes, inTree, inFree, treeRight, slotsRight, sizeRight, needMet, wellFormed}
 use Rattle.memory.proofs.Below.{below-at}
 use Rattle.memory.proofs.Chain.{frees-past}
-use Rattle.memory.proofs.Formed.{MarkRight, Formed, formed, formed-length, formed-well}
+use Rattle.memory.proofs.Formed.{MarkRight, formed, formed-length, formed-well}
 use Rattle.became.specs.Became.{free}
 use Rattle.held.specs.Held.{Held}
 use Rattle.held.proofs.Laws.{own-held, held-own}

@@ -1,6 +1,6 @@
 -- The plain note as a machine: each call of a note, what it answers or by which number it is refused, and the note that it leaves. Refusals 3 to
 -- 9 are here; that the memory holds no note is 2, and stands before these.
-use mathlib.Core.Bool.{Bool, _&&_, cond}
+use mathlib.Core.Bool.{_&&_, cond}
 use mathlib.Core.List.{List, [], _∷_, map}
 use Prim.Native.Nat.{ℕ}
 use lib.Dec.{leb, eqb}

@@ -1,12 +1,12 @@
 -- What a field asks for, by its tag and length.
-use mathlib.Core.Path.{_≡_, refl, ap, _∙_}
+use mathlib.Core.Path.{_≡_, ap, _∙_}
 use mathlib.Core.Bool.{Bool, false, not, cond}
 use mathlib.Core.List.{List, [], _∷_}
 use Prim.Native.Nat.{ℕ, _≤_, _<_}
 use lib.Dec.{ltb, eqb}
 use lib.ListN.{length, drop}
 use borrow.Author.Tests.{eq-eqb, ne-eqb, lt-ltb, le-ltb}
-use Rattle.plain.specs.Outcome.{Outcome, Outcome.value, Outcome.refused, ruled}
+use Rattle.plain.specs.Outcome.{Outcome.value, Outcome.refused, ruled}
 use Rattle.plain_calls.specs.Calls.{Call, Call.insert, Call.remove, Call.setMark}
 use Rattle.pool.specs.Big.{fourAt}
 use Rattle.plain_journal.specs.Fields.{asked}

@@ -2,7 +2,7 @@
 use mathlib.Core.Path.{_≡_, refl, sym, ap, subst, _∙_}
 use mathlib.Core.Bool.{Bool, true, false}
 use mathlib.Core.List.{List, [], _++_}
-use Prim.Native.Nat.{ℕ, _+_, _-_, _≤_, _<_}
+use Prim.Native.Nat.{ℕ, _+_, _-_}
 use native.Mathlib.Omega.{arith}
 use lib.ListN.{length, take, drop}
 use lib.Seq.{take-add}
@@ -13,7 +13,7 @@ use Rattle.plain_note.specs.Note.{opened}
 use Rattle.memory.specs.Formed.{wellFormed, noteOf}
 use Rattle.plain_journal.specs.Replay.{slots}
 use Rattle.journal.specs.Turns.{started, Advances, Turns, Taken, turned}
-use Rattle.journal.specs.Runs.{Runs, Runs.starts, Runs.turns, Runs.reads, Runs.ends}
+use Rattle.journal.specs.Runs.{Runs.starts, Runs.turns, Runs.reads, Runs.ends}
 use Rattle.recorder.specs.declared.Pumped.{Pumped}
 use Rattle.recorder.specs.declared.Pumped.the-variants.{On, Failed}
 use Rattle.recorder.specs.Program.{Running, Reads, Pumps}

@@ -1,7 +1,6 @@
 -- What lies below a node is as it was where its own slots are: the bytes below it, the slots that it uses, and whether it is sound.
 use mathlib.Core.Path.{_≡_, refl, ap, _∙_}
-use mathlib.Core.Bool.{Bool}
-use mathlib.Core.List.{List, [], _∷_, _++_, map}
+use mathlib.Core.List.{List, [], _∷_, map}
 use Prim.Native.Nat.{ℕ, zero, suc, _+_, _≤_}
 use native.Mathlib.Omega.{arith}
 use lib.ListN.{length}
@@ -11,7 +10,7 @@ use Rattle.pool.specs.declared.Kid.{Kid}
 use Rattle.pool.specs.Slot.{slotOf}
 use Rattle.nodes.specs.Node.{childrenOf}
 use Rattle.nodes.proofs.Put.{same}
-use Rattle.tree.specs.Tree.{joinOver, sumOver, every, bytesBelow, hit, uses, toldRight, seamless, leastAt, sound}
+use Rattle.tree.specs.Tree.{joinOver, sumOver, every, bytesBelow, hit, uses, toldRight, leastAt, sound}
 use Rattle.tree.specs.Kids.{below, fine}
 
 pub hit-self : (s : ℕ) → hit s s ≡ 1

@@ -2,7 +2,7 @@
 -- neighbouring children; here it is said of all leaves, as document 01 has it.
 use mathlib.Core.Path.{_≡_, refl, sym, ap, _∙_}
 use mathlib.Core.Bool.{Bool, true, false, not, _&&_}
-use mathlib.Core.List.{List, [], _∷_, _++_, map, append-nil, append-assoc}
+use mathlib.Core.List.{List, [], _∷_, _++_, map, append-nil}
 use Prim.Native.Nat.{ℕ, zero, suc, _≤_}
 use native.Mathlib.Omega.{arith}
 use lib.Dec.{leb}
@@ -14,9 +14,9 @@ use Rattle.pool.specs.declared.Kid.{Kid}
 use Rattle.nodes.specs.Node.{textOf, childrenOf}
 use Rattle.tree.specs.Tree.{joinOver, every, bytesBelow, seamless, leastAt, sound}
 use Rattle.tree.proofs.Lists.{both, join-append, join-cons, join-none, join-filled, every-head, every-tail, every-append}
-use Rattle.tree.proofs.Seams.{cr-none, lf-none, cr-append, lf-append}
+use Rattle.tree.proofs.Seams.{lf-none, cr-append, lf-append}
 use Rattle.tree.specs.Kids.{below, fine}
-use Rattle.tree.proofs.Sound.{child-sound, leaf-bytes, list-bytes, list-sound, filled-below}
+use Rattle.tree.proofs.Sound.{child-sound, leaf-bytes, list-sound, filled-below}
 
 -- lists joined
 unfoldable pub gather : {A B : Type 0} → (A → List B) → List A → List B

@@ -1,7 +1,7 @@
 -- How many nodes and leaves a sound tree has: few nodes for its leaves, few leaves for its bytes, and many leaves for its height. So a note within
 -- its size leaves slots free, and its tree is low.
-use mathlib.Core.Path.{_≡_, refl, sym, ap, _∙_}
-use mathlib.Core.Bool.{Bool, true, _&&_}
+use mathlib.Core.Path.{_≡_, refl, ap, _∙_}
+use mathlib.Core.Bool.{Bool, true}
 use mathlib.Core.List.{List, [], _∷_}
 use Prim.Native.Nat.{ℕ, zero, suc, _+_, _*_, _^_, _≤_, _<_}
 use native.Mathlib.Omega.{arith}

@@ -1,6 +1,5 @@
 -- `set_mark_place` meets its contract: a number written.
 use mathlib.Core.Path.{_≡_, refl, ap, _∙_}
-use mathlib.Core.List.{List}
 use Prim.Native.Nat.{ℕ, _+_, _*_}
 use native.Mathlib.Omega.{arith}
 use Rattle.pool.proofs.Rules.{wrote-refused, wrote-done}

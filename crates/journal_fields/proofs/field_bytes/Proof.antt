@@ -3,7 +3,7 @@ use Rattle.plain_journal.specs.Fields.{fieldBytes}
 use native.Mathlib.Omega.{arith}
 use Prim.Native.Nat.{ℕ, _+_}
 use mathlib.Core.Bool.{Bool, cond}
-use mathlib.Core.Path.{_≡_, refl, sym, ap, _∙_}
+use mathlib.Core.Path.{_≡_, sym, ap, _∙_}
 use borrow.Author.Needs.{needs}
 use Rattle.journal_fields.proofs.field_bytes.Statement.{statement}
 use Rattle.journal_fields.proofs.field_bytes.Tie as tie

@@ -10,7 +10,7 @@ use lib.ListN.{length, take, drop, length-drop}
 use native.Mathlib.Omega.{arith}
 use Prim.Native.Nat.{ℕ, _-_}
 use mathlib.Core.List.{List}
-use mathlib.Core.Path.{_≡_, refl, sym, ap, _∙_}
+use mathlib.Core.Path.{sym, ap, _∙_}
 use borrow.Author.Needs.{needs}
 use Rattle.journal_fields.proofs.insert_field.Statement.{statement}
 use Rattle.journal_fields.proofs.insert_field.Tie as tie

@@ -7,7 +7,7 @@ use Rattle.answer.specs.Answers.{number}
 use Rattle.plain_calls.specs.Calls.{Call.setMark, Said.is}
 use Rattle.plain.specs.Outcome.{Outcome.value}
 use Prim.Native.Nat.{ℕ}
-use mathlib.Core.Path.{_≡_, refl, sym, ap, _∙_}
+use mathlib.Core.Path.{sym, ap, _∙_}
 use borrow.Author.Needs.{needs}
 use Rattle.journal_fields.proofs.mark_field.Statement.{statement}
 use Rattle.journal_fields.proofs.mark_field.Tie as tie

@@ -7,7 +7,7 @@ use Rattle.line_change.specs.Change.{change}
 use Rattle.plain_calls.specs.Calls.{Call.remove, Said.by}
 use Rattle.plain.specs.Outcome.{Outcome.value}
 use Prim.Native.Nat.{ℕ}
-use mathlib.Core.Path.{_≡_, refl, sym, ap, _∙_}
+use mathlib.Core.Path.{sym, ap, _∙_}
 use borrow.Author.Needs.{needs}
 use Rattle.journal_fields.proofs.remove_field.Statement.{statement}
 use Rattle.journal_fields.proofs.remove_field.Tie as tie

@@ -1,4 +1,4 @@
-use mathlib.Core.Path.{_≡_, refl, sym, _∙_}
+use mathlib.Core.Path.{refl, sym, _∙_}
 use mathlib.Core.Bool.{false≢true}
 use Prim.Native.Nat.{_+_}
 use borrow.Author.Tests.{not-true, not-false, leb-true}

@@ -1,6 +1,5 @@
 -- `drop_mark` meets its contract: refusals 2 and 7 in this order, and then the mark's byte.
 use mathlib.Core.Path.{sym, ap, _∙_}
-use native.Mathlib.Omega.{arith}
 use Rattle.answer.specs.Answers.{number}
 use Rattle.note_promise.proofs.MarkCalls.{drop-2, drop-7, dropped}
 use borrow.Author.Needs.{needs}

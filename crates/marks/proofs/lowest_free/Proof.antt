@@ -1,5 +1,5 @@
 -- `lowest_free` meets its contract: the marks that were passed are live.
-use mathlib.Core.Path.{_≡_, sym, ap, _∙_}
+use mathlib.Core.Path.{_≡_, ap}
 use Prim.Native.Nat.{ℕ, suc, _+_, _-_, _≤_}
 use native.Mathlib.Omega.{arith}
 use Rattle.plain_calls.specs.Marks.{lowest}

@@ -1,5 +1,5 @@
 -- `move_mark` meets its contract: a mark that is not live stays, and the place of a live one is written.
-use mathlib.Core.Path.{_≡_, sym, ap, _∙_}
+use mathlib.Core.Path.{sym, ap, _∙_}
 use Prim.Native.Nat.{ℕ, _%_, _^_}
 use native.Mathlib.Omega.{arith}
 use Rattle.plain_calls.specs.Marks.{movedTo}

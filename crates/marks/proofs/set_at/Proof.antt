@@ -1,12 +1,8 @@
 -- `set_at` meets its contract: the place is written, and then that the mark is live.
-use mathlib.Core.Path.{refl, ap, _∙_}
-use mathlib.Core.List.{List}
-use Prim.Native.Nat.{ℕ}
+use mathlib.Core.Path.{refl}
 use native.Mathlib.Omega.{arith}
-use Rattle.pool.specs.Calls.{Wrote}
 use Rattle.pool.proofs.Rules.{wrote-refused}
-use Rattle.head_write.specs.Writes.{livePut}
-use Rattle.head_write.proofs.Laid.{mark-short, mark-none, mark-it, place-there}
+use Rattle.head_write.proofs.Laid.{mark-short, mark-none, place-there}
 use Rattle.marks.specs.MarkBytes.{markPut, markSet}
 use Rattle.marks.proofs.Rules.{set-wrote}
 use borrow.Author.Needs.{needs}

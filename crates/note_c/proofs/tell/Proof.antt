@@ -1,10 +1,8 @@
 -- `note_c::tell` meets its contract, in each of the two cases.
 use mathlib.Core.Path.{sym, ap, _∙_}
 use borrow.Author.Needs.{needs}
-use Prim.Native.Nat.{ℕ}
 use Rattle.plain.specs.Outcome.{kept}
 use Rattle.answer.specs.Answers.{number}
-use Rattle.answer.specs.declared.Number.{Number}
 use Rattle.note_c.specs.Told.{code}
 use Rattle.note_c.proofs.tell.Statement.{statement}
 use Rattle.note_c.proofs.tell.Tie as tie

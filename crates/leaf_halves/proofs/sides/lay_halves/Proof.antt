@@ -5,7 +5,7 @@ use native.Mathlib.Omega.{arith}
 use lib.ListN.{length}
 use Rattle.plain.specs.Edit.{putIn}
 use Rattle.plain.specs.Outcome.{Outcome.value}
-use Rattle.leaf_bytes.specs.Leaf.{leafOf, laid}
+use Rattle.leaf_bytes.specs.Leaf.{leafOf}
 use Rattle.leaf_bytes.proofs.Rules.{leaves-refused, leaves-done, over-yes, over-no, cut-left, cut-right, cut-done, cut-lengths}
 use Rattle.leaf_bytes.proofs.Laid.{whole-length}
 use borrow.Author.Needs.{needs}
