@@ -1,8 +1,8 @@
 #!/bin/sh
 # edits.sh [CRATE...]   tries every must-fail edit of the crates named, or of all: those of the gate, and those that lie in must-fail/more beside them.
 #   Each is refused, or the run fails; so it does where an edit only makes a proof file unfit for the code, which shows nothing.
-# It proves what is not proved yet, and then goes by the toolchain's quick loop, which checks anew only what an edit touches: a third of the time. The
-# gate tries its own edits from nothing.
+# It proves what is not proved yet, and then goes by the toolchain's quick loop, which checks anew only what an edit touches. The gate tries its own
+# edits from nothing.
 set -eu
 cd "$(dirname "$0")/.."
 
