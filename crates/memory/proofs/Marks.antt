@@ -1,12 +1,18 @@
 -- The marks of the slots that were met, by their bytes, and those at the start.
-use mathlib.Core.Path.{_≡_, sym, ap, _∙_}
+use mathlib.Core.Path.{_≡_, refl, sym, ap, _∙_}
+use mathlib.Core.Bool.{Bool, true, false, not, _&&_}
 use mathlib.Core.List.{List}
-use Prim.Native.Nat.{ℕ, _≤_, _<_}
+use Prim.Native.Nat.{ℕ, _+_, _≤_, _<_}
 use native.Mathlib.Omega.{arith}
+use native.Mathlib.Numerals.{add-one}
+use lib.Dec.{eqb}
 use lib.ListN.{length, getD, take, replicate, length-replicate, getD-replicate}
 use lib.Seq.{set-getD, getD-set-same, getD-take, length-take-le}
 use borrow.Author.Tests.{eq-eqb}
+use Rattle.plain.specs.Count.{bit}
 use Rattle.tree_check.specs.Met.{mark}
+use Rattle.memory.specs.Formed.{allBelow}
+use Rattle.memory.specs.Checks.{met}
 
 -- within a list one default is as good as another
 same-byte : (l : List ℕ) (x : ℕ) → x < length l → getD l x 1 ≡ getD l x 0
@@ -15,6 +21,23 @@ same-byte l x h = sym (getD-set-same l x (getD l x 1) 0 h) ∙ ap (λ (k : List 
 pub mark-no : (seen : List ℕ) (x : ℕ) → x < length seen → getD seen x 0 ≡ 0 → mark seen x ≡ 0
 unfolding mark
 mark-no seen x h e = rw (eq-eqb (getD seen x 1) 0 (same-byte seen x h ∙ e))
+
+-- one slot more of those that were met
+bit-one : (t : Bool) → t ≡ eqb (bit t) 1
+bit-one true = refl
+bit-one false = refl
+
+turned : (a b : Bool) → (a && b) ≡ (b && a)
+turned true true = refl
+turned true false = refl
+turned false true = refl
+turned false false = refl
+
+pub met-more : (seen : List ℕ) (x : ℕ) (all : Bool) → x < length seen → all ≡ allBelow x (met seen) → (all && not (eqb (getD seen x 0) 0)) ≡ allBelow (x + 1) (met seen)
+unfolding allBelow mark
+met-more seen x all h e =
+    (λ i. e i && not (eqb (sym (same-byte seen x h) i) 0)) ∙ turned (allBelow x (met seen)) (not (eqb (getD seen x 1) 0))
+    ∙ ap (λ (t : Bool). t && allBelow x (met seen)) (bit-one (not (eqb (getD seen x 1) 0))) ∙ ap (λ (k : ℕ). allBelow k (met seen)) (sym (add-one x))
 
 -- ── the marks at the start ──
 

@@ -2,7 +2,7 @@
 use mathlib.Core.Path.{_≡_}
 use mathlib.Core.Bool.{Bool, true, false, _&&_, _||_}
 use mathlib.Core.List.{List}
-use Prim.Native.Nat.{ℕ, _+_, _≤_, _<_}
+use Prim.Native.Nat.{ℕ, zero, suc, _+_, _≤_, _<_}
 use lib.Dec.{eqb, leb}
 use lib.ListN.{length, set, getD}
 use Rattle.plain_note.specs.Note.{need, limit}
@@ -39,6 +39,11 @@ pub record Took (m seen later : List ℕ) (s next : ℕ) : Type 0 where
 abbrev pub Stepped : List ℕ → List ℕ → List ℕ → ℕ → Step → Type 0
 Stepped m seen later s (Step·case.To next) = Took m seen later s next
 Stepped m seen later s Step·case.Bad = s < length seen → kindOf m s ≡ 0 → mark seen s ≡ 0 → ⊥
+
+-- k steps along free slots that lie in a row from s on
+abbrev pub Row : List ℕ → List ℕ → List ℕ → ℕ → ℕ → Type 0
+Row m seen later s zero = later ≡ seen
+Row m seen later s (suc k) = (mid : List ℕ) × Row m seen mid s k × Took m mid later (s + k) (s + k + 1)
 
 -- no slot that u counts was met, and u counts none twice; the marks afterwards have what u counts
 abbrev pub Unmet : List ℕ → (ℕ → ℕ) → Type 0

@@ -13,13 +13,14 @@ use tree_check::Met;
 use tree_check::check_node;
 use tree_check::tells;
 ghost use mathlib.Core.Path.{_≡_};
-ghost use Prim.Native.Nat.{_≤_, _<_};
-ghost use lib.ListN.{length};
+ghost use mathlib.Core.Bool.{true};
+ghost use Prim.Native.Nat.{_+_, _-_, _≤_, _<_};
+ghost use lib.ListN.{length, set};
 ghost use Rattle.plain_note.specs.Note.{need};
 ghost use Rattle.tree.specs.Tree.{leastRoot, tells};
 ghost use Rattle.note_head.specs.Head.{nOf};
 ghost use Rattle.memory.specs.Formed.{allBelow, wellFormed};
-ghost use Rattle.memory.specs.Checks.{ownRight, headRight, markRight, met, Stepped, Walked, Sorted, RootMet, Ready};
+ghost use Rattle.memory.specs.Checks.{ownRight, headRight, markRight, met, Took, Stepped, Row, Walked, Sorted, RootMet, Ready};
 
 // The least and the most slots of a note.
 pub const MIN_SLOTS: usize = 17;
@@ -88,6 +89,50 @@ fn take_free(m: &[u8], seen: &mut [u8], slot: usize) -> Step
     Step::To(next)
 }
 
+// Whether a slot is free, was not met, and names the one behind it as the next.
+fn in_row(m: &[u8], seen: &[u8], at: usize) -> bool
+    requires { ⌜ length (now m) ≡ need (length (now seen)) ⌝ }
+    ensures { λ r. ⌜ (r ≡ true → Took (now (m .entry)) (now (seen .entry)) (set (now (seen .entry)) at 1) at (at + 1)) ⌝ }
+{
+    let Head::Free(next) = head_of(m, at) else {
+        return false;
+    };
+    if seen[at] != 0 {
+        return false;
+    }
+    next == at + 1
+}
+
+// Marks free slots that lie in a row from the first on, at most so many, and says how many. Which slot is read hangs on no number that was
+// read before, so that the processor need not wait for one to read the next.
+fn take_row(m: &[u8], seen: &mut [u8], first: usize, most: usize) -> usize
+    requires { ⌜ (length (now m) ≡ need (length (now seen))) × (most ≤ length (now seen) - first) ⌝ }
+    ensures { λ r. ⌜ (r ≤ most) × Row (now (m .entry)) (now (seen .entry)) (now (seen .exit)) first r ⌝ }
+{
+    let mut k = 0;
+    while k < most {
+        if !in_row(m, seen, first + k) {
+            return k;
+        }
+        seen[first + k] = 1;
+        k += 1;
+    }
+    k
+}
+
+// How long a row is at most: to the last of n slots, and no longer than there are steps left.
+fn row_most(first: usize, left: usize, n: usize) -> usize
+    ensures { λ r. ⌜ (r ≤ left) × (r ≤ n - first) ⌝ }
+{
+    if n <= first {
+        return 0;
+    }
+    if n - first < left {
+        return n - first;
+    }
+    left
+}
+
 // Marks the free slots, from the first one on. Each of them is met once at most, so there are no more steps than slots.
 fn walk(m: &[u8], seen: &mut [u8], first: usize) -> bool
     requires { ⌜ length (now m) ≡ need (length (now seen)) ⌝ }
@@ -103,23 +148,25 @@ fn walk(m: &[u8], seen: &mut [u8], first: usize) -> bool
         let Step::To(next) = take_free(m, seen, at) else {
             return false;
         };
-        at = next;
         left -= 1;
+        let k = take_row(m, seen, next, row_most(next, left, n));
+        at = next + k;
+        left -= k;
     }
     at == n
 }
 
+// Without a branch in the loop, so that it vectorises.
 fn all_met(seen: &[u8]) -> bool
     ensures { λ r. ⌜ r ≡ allBelow (length (now (seen .entry))) (met (now (seen .entry))) ⌝ }
 {
+    let mut all = true;
     let mut x: usize = 0;
     while x < seen.len() {
-        if seen[x] == 0 {
-            return false;
-        }
+        all = all & (seen[x] != 0);
         x += 1;
     }
-    true
+    all
 }
 
 // Whether each slot that was not met is free, and no other.

@@ -45,7 +45,7 @@ cr-last (x ∷ []) (suc i) h = absurd (omega arith)
 cr-last (x ∷ y ∷ t) zero h = absurd (omega arith)
 cr-last (x ∷ y ∷ t) (suc i) h = cr-last (y ∷ t) i (omega arith)
 
--- ── what `from_str` answered ──
+-- ── what `of_leaf` answered ──
 
 module _ (t : List ℕ) (r : Info) (promise : info r ≡ leafInfo t) where
   pub text-is : (i : TextInfo) → r ≡ Info·case.Is i → (s : TextSum) (lf cr : Bool) → s ≡ widened i → lf ≡ lfFirst t → cr ≡ crLast t → TextFine t s lf cr

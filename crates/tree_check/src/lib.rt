@@ -12,7 +12,7 @@ use nodes::MIN_LEN;
 use pool::Entry;
 use pool::Head;
 use pool::head_of;
-use pool::kid_of;
+use pool::walked_kid;
 use text_info::TextSum;
 ghost use mathlib.Core.Path.{_≡_};
 ghost use mathlib.Core.Bool.{false};
@@ -100,7 +100,7 @@ fn check_list(m: &[u8], seen: &mut [u8], level: u8, slot: usize, n: usize) -> Me
     let mut cr = false;
     let mut i = 0;
     while i < n {
-        let Entry::Is(kid) = kid_of(m, slot, i) else {
+        let Entry::Is(kid) = walked_kid(m, slot, i) else {
             return Met::Bad;
         };
         let Met::Fine(got, first, last) = check_node(m, seen, level, kid.slot as usize, least)

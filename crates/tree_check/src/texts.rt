@@ -53,7 +53,7 @@ fn check_text(text: &[u8]) -> Met
     requires { ⌜ length (now text) ≤ 512 ⌝ }
     ensures { λ r. ⌜ met.TextMet (now (text .entry)) r ⌝ }
 {
-    match TextInfo::from_str(text) {
+    match TextInfo::of_leaf(text) {
         Info::Refused(_) => Met::Bad,
         Info::Is(info) => Met::Fine(widened(info), begins_lf(text), ends_cr(text)),
     }

@@ -29,7 +29,15 @@ const JAPANESE: &str = "朝の港には霧が出ていて、船はまだ来な�
     ノートに一行だけ書いて、もう一度読みなおした。\r\n\
     「忘れないうちに」と彼女は言った。\n\n";
 
-const TEXTS: [(&str, &str); 2] = [("ASCII", ENGLISH), ("Japanese", JAPANESE)];
+const MIXED: &str = "Café Müller schließt um zehn; le garçon dit « à bientôt » et s'en va. 😀\n\
+    Zoë a noté l'heure, señor: 21:45, naïve façade, Ångström, smörgåsbord.\r\n\
+    Plain words follow here, so that most of the bytes are ASCII 👍🏽 after all.\n\n";
+
+const TEXTS: [(&str, &str); 3] = [
+    ("ASCII", ENGLISH),
+    ("Japanese", JAPANESE),
+    ("mixed", MIXED),
+];
 
 fn main() -> ExitCode {
     let words: Vec<String> = std::env::args().skip(1).collect();

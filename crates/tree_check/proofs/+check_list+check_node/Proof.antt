@@ -22,7 +22,7 @@ use Rattle.tree_check.proofs.+check_list+check_node.Lts-check_list as c
 use Rattle.tree_check.proofs.check_node.Reads as check-node
 use Rattle.tree_check.proofs.check_node.Kinds as check-node-kinds
 use Rattle.tree_check.proofs.+check_list+check_node.Lts-check_node as check-node-lts
-use Rattle.pool.proofs.kid_of.Reads as kid-of-reads
+use Rattle.pool.proofs.walked_kid.Reads as walked-kid-reads
 use Rattle.text_info.proofs.TextSum.new.Reads as new-reads
 use Rattle.tree_check.proofs.least_of.Reads as least-of-reads
 use Rattle.tree_check.proofs.shape_of.Reads as shape-of-reads
@@ -61,8 +61,8 @@ list-calls t = (
   least-of-reads.Learnt,
   new-reads.Asked,
   new-reads.Learnt,
-  kid-of-reads.Asked,
-  kid-of-reads.Learnt,
+  walked-kid-reads.Asked,
+  walked-kid-reads.Learnt,
   check-node-below t,
   check-node.Post,
   follows-reads.Asked,
@@ -101,8 +101,8 @@ list-new-requires t c κs = search needs
 list-loop-holds : (t : ℕ) → check-list-lts.Need-loop-holds (list-calls t) (check-list-at t) check-list.Post Inv μ-loop
 list-loop-holds t c = (omega arith, refl, within-none _ (c .new .ensures), kids-none _ _ _ _ (c .new .ensures))
 
-list-kid-of-requires : (t : ℕ) → check-list-lts.Need-kid-of-requires (list-calls t) (check-list-at t) check-list.Post Inv μ-loop
-list-kid-of-requires t c κs = search needs
+list-walked-kid-requires : (t : ℕ) → check-list-lts.Need-walked-kid-requires (list-calls t) (check-list-at t) check-list.Post Inv μ-loop
+list-walked-kid-requires t c κs = search needs
 
 list-enum-known-kid : (t : ℕ) → check-list-lts.Need-enum-known-kid (list-calls t) (check-list-at t) check-list.Post Inv μ-loop
 list-enum-known-kid t c = search needs
@@ -117,7 +117,7 @@ list-returns : (t : ℕ) → check-list-lts.Need-returns (list-calls t) (check-l
 list-returns t c =
     let a = c .before .before .before .before .before .before .before .before .before .args in
     let p = c .before .before .before .before .before .before .before .before .before .pre .1 in
-    absurd (entry-there (c .before .before .kid-of .result) (a .m .now) (a .slot) _ _ (c .before .before .kid-of .ensures) (c .enum-told .given .1) (inside (a .m .now) (a .slot) (p .0)) (omega arith))
+    absurd (entry-there (c .before .before .walked-kid .result) (a .m .now) (a .slot) _ _ (c .before .before .walked-kid .ensures) (c .enum-told .given .1) (inside (a .m .now) (a .slot) (p .0)) (omega arith))
 
 list-cast-check-node : (t : ℕ) → check-list-lts.Need-cast-check-node (list-calls t) (check-list-at t) check-list.Post Inv μ-loop
 list-cast-check-node t c = search needs
@@ -138,7 +138,7 @@ list-returns-2 : (t : ℕ) → check-list-lts.Need-returns-2 (list-calls t) (che
 list-returns-2 t c =
     let a = c .before .before .before .before .before .before .before .before .before .before .before .before .before .before .before .before .before .args in
     let w = c .before .before .before .before .before .before .before .before .before .before .before .before .loop in
-    let o = entry-opened (c .before .before .before .before .before .before .before .before .before .before .kid-of .result) (a .m .now) (a .slot) (w .i) _ (c .before .before .before .before .before .before .before .before .before .before .kid-of .ensures) (c .before .before .before .before .before .before .before .before .kid .given .1) in
+    let o = entry-opened (c .before .before .before .before .before .before .before .before .before .before .walked-kid .result) (a .m .now) (a .slot) (w .i) _ (c .before .before .before .before .before .before .before .before .before .before .walked-kid .ensures) (c .before .before .before .before .before .before .before .before .kid .given .1) in
     let d = child-met (a .m .now) (w .seen) _ (c .before .before .before .before .before .before .before .before .before .before .before .before .before .before .least-of .result) (a .level) _ (c .before .before .before .before .check-node .result) _ (c .before .before .before .before .before .before .before .before .before .before .before .before .before .before .least-of .ensures) (c .enum-told2 .given .1) (c .before .before .before .before .check-node .ensures) in
     λ e s f. turn-bad (a .m .now) _ (a .level) (a .slot) (w .i) (o .1) _ (o .2) (w .seen) _ _ _ (w .inv .3) (a .n) (c .before .before .before .before .before .before .before .before .before .before .before .loop-test .taken) (c .before .before .before .before .before .before .before .before .before .before .before .before .before .before .before .before .before .pre .1 .1) e s f d
 
@@ -152,7 +152,7 @@ list-returns-3 : (t : ℕ) → check-list-lts.Need-returns-3 (list-calls t) (che
 list-returns-3 t c =
     let a = c .before .before .before .before .before .before .before .before .before .before .before .before .before .before .before .before .before .before .before .before .args in
     let w = c .before .before .before .before .before .before .before .before .before .before .before .before .before .before .before .loop in
-    let o = entry-opened (c .before .before .before .before .before .before .before .before .before .before .before .before .before .kid-of .result) (a .m .now) (a .slot) (w .i) _ (c .before .before .before .before .before .before .before .before .before .before .before .before .before .kid-of .ensures) (c .before .before .before .before .before .before .before .before .before .before .before .kid .given .1) in
+    let o = entry-opened (c .before .before .before .before .before .before .before .before .before .before .before .before .before .walked-kid .result) (a .m .now) (a .slot) (w .i) _ (c .before .before .before .before .before .before .before .before .before .before .before .before .before .walked-kid .ensures) (c .before .before .before .before .before .before .before .before .before .before .before .kid .given .1) in
     let d = child-met (a .m .now) (w .seen) _ (c .before .before .before .before .before .before .before .before .before .before .before .before .before .before .before .before .before .least-of .result) (a .level) _ (c .before .before .before .before .before .before .before .check-node .result) _ (c .before .before .before .before .before .before .before .before .before .before .before .before .before .before .before .before .before .least-of .ensures) (c .before .before .before .got .given .1) (c .before .before .before .before .before .before .before .check-node .ensures) in
     λ e s f. turn-off (a .m .now) _ (a .level) (a .slot) (w .i) (o .1) _ (o .2) (w .seen) _ _ _ (w .inv .3) (a .n) (c .before .before .before .before .before .before .before .before .before .before .before .before .before .before .loop-test .taken) (c .before .before .before .before .before .before .before .before .before .before .before .before .before .before .before .before .before .before .before .before .pre .1 .1) e s f _ _ _ _ d (sym (c .before .follows .ensures) ∙ not-true _ (c .if1 .taken))
 
@@ -174,7 +174,7 @@ list-loop-again : (t : ℕ) → check-list-lts.Need-loop-again (list-calls t) (c
 list-loop-again t c =
     let a = c .before .before .before .before .before .before .before .before .before .before .before .before .before .before .before .before .before .before .before .before .before .before .args in
     let w = c .before .before .before .before .before .before .before .before .before .before .before .before .before .before .before .before .before .loop in
-    let o = entry-opened (c .before .before .before .before .before .before .before .before .before .before .before .before .before .before .before .kid-of .result) (a .m .now) (a .slot) (w .i) _ (c .before .before .before .before .before .before .before .before .before .before .before .before .before .before .before .kid-of .ensures) (c .before .before .before .before .before .before .before .before .before .before .before .before .before .kid .given .1) in
+    let o = entry-opened (c .before .before .before .before .before .before .before .before .before .before .before .before .before .before .before .walked-kid .result) (a .m .now) (a .slot) (w .i) _ (c .before .before .before .before .before .before .before .before .before .before .before .before .before .before .before .walked-kid .ensures) (c .before .before .before .before .before .before .before .before .before .before .before .before .before .kid .given .1) in
     let d = child-met (a .m .now) (w .seen) _ (c .before .before .before .before .before .before .before .before .before .before .before .before .before .before .before .before .before .before .before .least-of .result) (a .level) _ (c .before .before .before .before .before .before .before .before .before .check-node .result) _ (c .before .before .before .before .before .before .before .before .before .before .before .before .before .before .before .before .before .before .before .least-of .ensures) (c .before .before .before .before .before .got .given .1) (c .before .before .before .before .before .before .before .before .before .check-node .ensures) in (
       omega (arith, c .before .before .before .before .before .before .before .before .before .before .before .before .before .before .before .before .loop-test .taken),
       c .before .before .before .before .before .before .before .before .before .check-node .kept .1 .0 ∙ w .inv .1,
@@ -279,7 +279,7 @@ pub +check-list+check-node-spec : {M : Type 1} → statement M
     (list-least-of-requires t)
     (list-new-requires t)
     (list-loop-holds t)
-    (list-kid-of-requires t)
+    (list-walked-kid-requires t)
     (list-enum-known-kid t)
     (list-enum-told t)
     (list-same-length t)
