@@ -4,11 +4,13 @@ use crate::ends_last;
 use crate::stop;
 use crate::sum_of;
 ghost use mathlib.Core.Path.{_≡_};
-ghost use Prim.Native.Nat.{ℕ, _+_, _-_, _≤_, _<_};
-ghost use lib.ListN.{length, getD, drop};
+ghost use Prim.Native.Nat.{_+_, _-_, _≤_, _<_};
+ghost use lib.ListN.{length, drop};
 ghost use Rattle.plain.specs.Count.{breaks};
+ghost use Rattle.utf8.specs.Bmp.{highest};
+ghost use Rattle.lines_crlf.specs.Surveyed.{Tops, Higher};
 
-// A byte that none is above, and how many breaks there are.
+// The highest byte, 0 where there is none, and how many breaks there are.
 pub struct Survey {
     pub high: u8,
     pub count: usize,
@@ -21,7 +23,7 @@ struct Part {
 }
 
 fn higher(a: u8, b: u8) -> u8
-    ensures { λ r. ⌜ (a ≤ r) × (b ≤ r) ⌝ }
+    ensures { λ r. ⌜ Higher a b r ⌝ }
 {
     if a < b { b } else { a }
 }
@@ -29,7 +31,7 @@ fn higher(a: u8, b: u8) -> u8
 // Of a part that stops short of the end.
 fn of_part(text: &[u8], a: usize, e: usize) -> Part
     requires { ⌜ (a ≤ e) × (e < length (now text)) × (e ≤ a + 224) ⌝ }
-    ensures { λ r. ⌜ ((k : ℕ) → a ≤ k → k < e → getD (now (text .entry)) k 0 ≤ r .high) × (r .count + breaks (drop e (now (text .entry))) ≡ breaks (drop a (now (text .entry)))) × (r .count ≤ e - a) ⌝ }
+    ensures { λ r. ⌜ Tops (now (text .entry)) a e (r .high) × (r .count + breaks (drop e (now (text .entry))) ≡ breaks (drop a (now (text .entry)))) × (r .count ≤ e - a) ⌝ }
 {
     let mut high: u8 = 0;
     let mut n: u8 = 0;
@@ -45,7 +47,7 @@ fn of_part(text: &[u8], a: usize, e: usize) -> Part
 // Of the bytes before one of them, in parts.
 fn of_parts(text: &[u8], end: usize) -> Survey
     requires { ⌜ end < length (now text) ⌝ }
-    ensures { λ r. ⌜ ((k : ℕ) → k < end → getD (now (text .entry)) k 0 ≤ r .high) × (r .count + breaks (drop end (now (text .entry))) ≡ breaks (now (text .entry))) × (r .count ≤ end) ⌝ }
+    ensures { λ r. ⌜ Tops (now (text .entry)) 0 end (r .high) × (r .count + breaks (drop end (now (text .entry))) ≡ breaks (now (text .entry))) × (r .count ≤ end) ⌝ }
 {
     let mut high: u8 = 0;
     let mut n = 0;
@@ -70,7 +72,7 @@ fn from_on(k: u8, s: u8, x: u8) -> u8
 // Of 32 bytes, the first s of them not counted. That k is a byte, and no part of an index, lets the loop test sixteen of them at a time.
 fn of_rest(text: &[u8], base: usize, s: u8) -> Part
     requires { ⌜ (base + 32 < length (now text)) × (s ≤ 32) ⌝ }
-    ensures { λ r. ⌜ ((j : ℕ) → base ≤ j → j < base + 32 → getD (now (text .entry)) j 0 ≤ r .high) × (r .count + breaks (drop (base + 32) (now (text .entry))) ≡ breaks (drop (base + s) (now (text .entry)))) × (r .count ≤ 32 - s) ⌝ }
+    ensures { λ r. ⌜ Tops (now (text .entry)) base (base + 32) (r .high) × (r .count + breaks (drop (base + 32) (now (text .entry))) ≡ breaks (drop (base + s) (now (text .entry)))) × (r .count ≤ 32 - s) ⌝ }
 {
     let end = base + 32;
     let mut high: u8 = 0;
@@ -89,7 +91,7 @@ fn of_rest(text: &[u8], base: usize, s: u8) -> Part
 // Of the bytes before the last: 32 at a time, and of those left the 32 that end with them, so that no loop has a rest to do byte by byte.
 fn of_most(text: &[u8], last: usize) -> Survey
     requires { ⌜ last < length (now text) ⌝ }
-    ensures { λ r. ⌜ ((k : ℕ) → k < last → getD (now (text .entry)) k 0 ≤ r .high) × (r .count + breaks (drop last (now (text .entry))) ≡ breaks (now (text .entry))) × (r .count ≤ last) ⌝ }
+    ensures { λ r. ⌜ Tops (now (text .entry)) 0 last (r .high) × (r .count + breaks (drop last (now (text .entry))) ≡ breaks (now (text .entry))) × (r .count ≤ last) ⌝ }
 {
     if last < 32 {
         return of_parts(text, last);
@@ -105,7 +107,7 @@ fn of_most(text: &[u8], last: usize) -> Survey
 
 // Of a text.
 pub fn of_text(text: &[u8]) -> Survey
-    ensures { λ r. ⌜ ((k : ℕ) → k < length (now (text .entry)) → getD (now (text .entry)) k 0 ≤ r .high) × (r .count ≡ breaks (now (text .entry))) ⌝ }
+    ensures { λ r. ⌜ (r .high ≡ highest (now (text .entry))) × (r .count ≡ breaks (now (text .entry))) ⌝ }
 {
     if text.len() == 0 {
         return Survey { high: 0, count: 0 };

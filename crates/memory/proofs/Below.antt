@@ -1,8 +1,7 @@
 -- The laws of `allBelow`.
 use mathlib.Core.Path.{_≡_, refl, sym, ap, _∙_}
-use mathlib.Core.Bool.{Bool, true, false, _&&_}
-use Prim.Native.Nat.{ℕ, zero, suc, _+_, _<_}
-use native.Mathlib.Numerals.{add-one}
+use mathlib.Core.Bool.{Bool, true, false, _&&_, false≢true}
+use Prim.Native.Nat.{ℕ, zero, suc, _+_, _≤_, _<_}
 use native.Mathlib.Omega.{arith}
 use native.Mathlib.Decide.{ℕ-discrete}
 use Rattle.plain.proofs.Logic.{and-left, and-right, and-none}
@@ -13,10 +12,6 @@ module _ (f : ℕ → Bool) where
   pub below-none : allBelow 0 f ≡ true
   unfolding allBelow
   below-none = refl
-
-  pub below-more : (n : ℕ) → allBelow n f ≡ true → f n ≡ true → allBelow (n + 1) f ≡ true
-  unfolding allBelow
-  below-more n a e = rw add-one (both (f n) (allBelow n f) e a)
 
   pub below-at : (n x : ℕ) → allBelow n f ≡ true → x < n → f x ≡ true
   unfolding allBelow
@@ -34,3 +29,19 @@ module _ (f : ℕ → Bool) where
   below-not zero x h e = absurd (omega arith)
   below-not (suc n) x h e =
       elim (ℕ-discrete x n) [ yes q ↦ ap (λ (t : Bool). t && allBelow n f) (sym (ap f q) ∙ e) | no d ↦ ap (λ (t : Bool). f n && t) (below-not n x (omega arith) e) ∙ and-none (f n) ]
+
+  -- a run of numbers that pass
+  pub below-run : (n k : ℕ) → ((x : ℕ) → n ≤ x → x < n + k → f x ≡ true) → allBelow n f ≡ allBelow (n + k) f
+  unfolding allBelow
+  below-run n zero a = let e : n ≡ n + 0 = omega arith in ap (λ (j : ℕ). allBelow j f) e
+  below-run n (suc k) a =
+      let e : suc (n + k) ≡ n + suc k = omega arith in
+      below-run n k (λ x h l. a x h (omega arith)) ∙ sym (ap (λ (t : Bool). t && allBelow (n + k) f) (a (n + k) (omega arith) (omega arith))) ∙ ap (λ (j : ℕ). allBelow j f) e
+
+  -- one that does not pass among fewer
+  pub below-less : (n k : ℕ) → n ≤ k → allBelow n f ≡ false → allBelow k f ≡ false
+  below-less n k h e = go (allBelow k f) refl
+    where
+      go : (t : Bool) → allBelow k f ≡ t → allBelow k f ≡ false
+      go true q = absurd (false≢true (sym e ∙ below-all n (λ x l. below-at k x q (omega arith))))
+      go false q = q

@@ -1,6 +1,6 @@
 -- The marks of the slots that were met, by their bytes, and those at the start.
 use mathlib.Core.Path.{_≡_, refl, sym, ap, _∙_}
-use mathlib.Core.Bool.{Bool, true, false, not, _&&_}
+use mathlib.Core.Bool.{Bool, true, false, not, _&&_, and-comm}
 use mathlib.Core.List.{List}
 use Prim.Native.Nat.{ℕ, _+_, _≤_, _<_}
 use native.Mathlib.Omega.{arith}
@@ -27,16 +27,10 @@ bit-one : (t : Bool) → t ≡ eqb (bit t) 1
 bit-one true = refl
 bit-one false = refl
 
-turned : (a b : Bool) → (a && b) ≡ (b && a)
-turned true true = refl
-turned true false = refl
-turned false true = refl
-turned false false = refl
-
 pub met-more : (seen : List ℕ) (x : ℕ) (all : Bool) → x < length seen → all ≡ allBelow x (met seen) → (all && not (eqb (getD seen x 0) 0)) ≡ allBelow (x + 1) (met seen)
 unfolding allBelow mark
 met-more seen x all h e =
-    (λ i. e i && not (eqb (sym (same-byte seen x h) i) 0)) ∙ turned (allBelow x (met seen)) (not (eqb (getD seen x 1) 0))
+    (λ i. e i && not (eqb (sym (same-byte seen x h) i) 0)) ∙ and-comm (allBelow x (met seen)) (not (eqb (getD seen x 1) 0))
     ∙ ap (λ (t : Bool). t && allBelow x (met seen)) (bit-one (not (eqb (getD seen x 1) 0))) ∙ ap (λ (k : ℕ). allBelow k (met seen)) (sym (add-one x))
 
 -- ── the marks at the start ──

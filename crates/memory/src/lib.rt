@@ -13,12 +13,12 @@ use tree_check::Met;
 use tree_check::check_node;
 use tree_check::tells;
 ghost use mathlib.Core.Path.{_≡_};
-ghost use mathlib.Core.Bool.{true};
-ghost use Prim.Native.Nat.{_+_, _-_, _≤_, _<_};
+ghost use mathlib.Core.Bool.{true, _&&_};
+ghost use Prim.Native.Nat.{ℕ, _+_, _-_, _≤_, _<_};
 ghost use lib.ListN.{length, set};
 ghost use Rattle.plain_note.specs.Note.{need};
 ghost use Rattle.tree.specs.Tree.{leastRoot, tells};
-ghost use Rattle.note_head.specs.Head.{nOf};
+ghost use Rattle.note_head.specs.Head.{nOf, liveAt};
 ghost use Rattle.memory.specs.Formed.{allBelow, wellFormed};
 ghost use Rattle.memory.specs.Checks.{ownRight, headRight, markRight, met, Took, Stepped, Row, Walked, Sorted, RootMet, Ready};
 
@@ -60,15 +60,54 @@ fn mark_right(m: &[u8], k: usize, chars: u64) -> bool
     mark_place(m, k) as u64 <= chars
 }
 
+// How many marks are looked at in one go, and how often.
+const RUN: usize = 8;
+
+const RUNS: usize = MARKS / RUN;
+
+// Whether the RUN marks from k on are free, as most marks are: a pass without a branch.
+fn run_free(m: &[u8], k: usize) -> bool
+    requires { ⌜ k + 8 ≤ 256 ⌝ }
+    ensures { λ r. ⌜ (r ≡ true → (j : ℕ) → k ≤ j → j < k + 8 → liveAt (now (m .entry)) j ≡ 0) ⌝ }
+{
+    let e = k + RUN;
+    let mut free = true;
+    let mut j = k;
+    while j < e {
+        free = free & (mark_live(m, j) == 0);
+        j += 1;
+    }
+    free
+}
+
+// Whether the RUN marks from k on are right.
+fn run_right(m: &[u8], k: usize, chars: u64) -> bool
+    requires { ⌜ k + 8 ≤ 256 ⌝ }
+    ensures { λ r. ⌜ (r && allBelow k (markRight (now (m .entry)) chars)) ≡ allBelow (k + 8) (markRight (now (m .entry)) chars) ⌝ }
+{
+    if run_free(m, k) {
+        return true;
+    }
+    let e = k + RUN;
+    let mut j = k;
+    while j < e {
+        if !mark_right(m, j, chars) {
+            return false;
+        }
+        j += 1;
+    }
+    true
+}
+
 fn marks_right(m: &[u8], chars: u64) -> bool
     ensures { λ r. ⌜ r ≡ allBelow 256 (markRight (now (m .entry)) chars) ⌝ }
 {
-    let mut k: usize = 0;
-    while k < MARKS {
-        if !mark_right(m, k, chars) {
+    let mut i: usize = 0;
+    while i < RUNS {
+        if !run_right(m, RUN * i, chars) {
             return false;
         }
-        k += 1;
+        i += 1;
     }
     true
 }

@@ -219,16 +219,6 @@ pub fn kid_of(m: &[u8], slot: usize, i: usize) -> Entry
     }
 }
 
-// The same, for the check of a whole tree, which alone calls it: so it is compiled into the walk.
-pub fn walked_kid(m: &[u8], slot: usize, i: usize) -> Entry
-    ensures { λ r. ⌜ entry r ≡ kidOf (now (m .entry)) slot i ⌝ }
-{
-    match kid_start(m, slot, i) {
-        Number::Refused(r) => Entry::Refused(r),
-        Number::Is(at) => Entry::Is(kid_at(m, at)),
-    }
-}
-
 // The slot of an entry's child alone, and its counts alone: a search and a sum read many entries, and no more of each than they need.
 pub fn child_of(m: &[u8], slot: usize, i: usize) -> Number
     ensures { λ r. ⌜ number r ≡ childOf (now (m .entry)) slot i ⌝ }

@@ -29,6 +29,11 @@ use Rattle.tree_check.specs.declared.Met.{Met}
 use Rattle.tree_check.specs.Met.{Fresh, NodeFine, NodeMet, KidsFine, kidsTo, follows, begun}
 use Rattle.tree_check.proofs.Marks.{mark-le}
 
+-- ── a child by the two parts of its entry ──
+
+pub parts-opened : (k : Kid) (n : ℕ) (t : TextInfo) → n ≡ k .slot → t ≡ k .info → _≡_ {A = Kid} (record { slot = n; info = t }) k
+parts-opened k n t e f = λ i. record { slot = e i; info = f i }
+
 -- ── a list of children by itself ──
 
 module _ (m : List ℕ) (h : ℕ) where

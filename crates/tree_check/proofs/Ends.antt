@@ -1,26 +1,24 @@
 -- What the functions over texts show: how a text begins and ends, and that a text is one.
 use mathlib.Core.Path.{_≡_, refl, sym, ap, subst, _∙_}
-use mathlib.Core.Bool.{Bool, true, false, not, _&&_}
+use mathlib.Core.Bool.{Bool, true, false, not, _&&_, _||_, and-true}
 use mathlib.Core.List.{List, [], _∷_}
-use Prim.Native.Nat.{ℕ, zero, suc, _≤_}
+use Prim.Native.Nat.{ℕ, zero, suc, _<_}
 use native.Mathlib.Omega.{arith}
-use lib.Dec.{eqb}
+use lib.Dec.{eqb, leb}
 use lib.ListN.{length, getD}
-use borrow.Author.Tests.{le-ltb, not-true, not-false}
+use borrow.Author.Tests.{lt-ltb, lt-leb, not-true, not-false}
 use Rattle.plain.specs.Utf8.{validUtf8, decode}
-use Rattle.plain.specs.Count.{lfFirst, crLast}
-use Rattle.plain.specs.Outcome.{past}
-use Rattle.plain.proofs.Outcome.{accepted, all-accepted, rule-passed, one-passed}
-use Rattle.answer.specs.Answers.{refusalNumber}
-use Rattle.answer.specs.declared.Refusal.{Refusal}
-use Rattle.leaf_bytes.proofs.Opened.{never}
+use Rattle.plain.specs.Place.{isStart, isWide}
+use Rattle.plain.specs.Count.{bit, countIf, breaks, lfFirst, crLast}
+use Rattle.utf8.specs.Bmp.{highest, validBmp}
+use Rattle.utf8.proofs.Highest.{below-both}
 use Rattle.text_info.specs.declared.TextInfo.{TextInfo}
 use Rattle.text_info.specs.declared.TextSum.{TextSum}
-use Rattle.text_info.specs.declared.Info.{Info}
-use Rattle.text_info.specs.declared.Info.the-variants as Info·case
-use Rattle.text_info.specs.Info.{info, infoOf, leafInfo}
+use Rattle.text_info.proofs.Counts.{raw-text}
+use Rattle.tree.specs.Tree.{sumOf}
+use Rattle.tree.proofs.Counts.{sum-is}
 use Rattle.tree_check.specs.declared.Met.{Met}
-use Rattle.tree_check.specs.Met.{TextMet, TextFine, widened}
+use Rattle.tree_check.specs.Met.{TextMet, TextFine}
 
 pub lf-nil : (t : List ℕ) → length t ≡ 0 → false ≡ lfFirst t
 unfolding lfFirst
@@ -45,31 +43,38 @@ cr-last (x ∷ []) (suc i) h = absurd (omega arith)
 cr-last (x ∷ y ∷ t) zero h = absurd (omega arith)
 cr-last (x ∷ y ∷ t) (suc i) h = cr-last (y ∷ t) i (omega arith)
 
--- ── what `of_leaf` answered ──
+-- ── a text by its highest byte ──
 
-module _ (t : List ℕ) (r : Info) (promise : info r ≡ leafInfo t) where
-  pub text-is : (i : TextInfo) → r ≡ Info·case.Is i → (s : TextSum) (lf cr : Bool) → s ≡ widened i → lf ≡ lfFirst t → cr ≡ crLast t → TextFine t s lf cr
-  unfolding leafInfo
-  text-is i e s lf cr w f l =
-      let a = accepted 5 (not (validUtf8 t)) ((11, past (length t) 512) ∷ []) (infoOf (decode t)) i (sym promise ∙ ap info e) in
-      let b = accepted 11 (past (length t) 512) [] (infoOf (decode t)) i (a .1) in
-      record {
-        valid = not-not (validUtf8 t) (a .0);
-        told = record { counts = w ∙ ap widened (sym (all-accepted (infoOf (decode t)) i (b .1))); first = f; last = l };
-      }
-    where
-      not-not : (b : Bool) → not b ≡ false → b ≡ true
-      not-not true e = refl
-      not-not false e = sym e
+-- ASCII has as many chars as bytes
+pub ascii-chars : (s : List ℕ) → highest s < 0x80 → length s ≡ countIf isStart s
+unfolding countIf isStart
+ascii-chars [] h = refl
+ascii-chars (b ∷ s) h = let l = below-both b s 0x80 h in omega (arith, ap bit (ap (λ (t : Bool). t || leb 0xC0 b) (lt-ltb b 0x80 (l .0))), ascii-chars s (l .1))
 
-  pub text-not : (q : Refusal) → r ≡ Info·case.Refused q → length t ≤ 512 → validUtf8 t ≡ true → ⊥
-  unfolding leafInfo
-  text-not q e h v =
-      never (refusalNumber q) (infoOf (decode t))
-      (sym (ap info e)
-      ∙ promise
-      ∙ rule-passed 5 (not (validUtf8 t)) ((11, past (length t) 512) ∷ []) (infoOf (decode t)) (ap not v)
-      ∙ one-passed 11 (past (length t) 512) (infoOf (decode t)) (le-ltb 512 (length t) h))
+-- no byte below F0 begins a char of four
+pub low-wides : (s : List ℕ) → highest s < 0xF0 → 0 ≡ countIf isWide s
+unfolding countIf isWide
+low-wides [] h = refl
+low-wides (b ∷ s) h = let l = below-both b s 0xF0 h in omega (arith, ap bit (lt-leb 0xF0 b (l .0)), low-wides s (l .1))
+
+-- and where none is, text is text of chars of three bytes at most
+pub low-valid : (s : List ℕ) → highest s < 0xF0 → validBmp s ≡ validUtf8 s
+unfolding validBmp
+low-valid s h = ap (λ (t : Bool). validUtf8 s && t) (lt-ltb (highest s) 0xF0 h) ∙ and-true (validUtf8 s)
+
+-- counts of bytes are those of the text
+pub text-is : (t : List ℕ) (r : TextSum) (lf cr : Bool) → validUtf8 t ≡ true → r .bytes ≡ length t → r .chars ≡ countIf isStart t → r .«utf16_surrogates» ≡ countIf isWide t → r .«line_breaks» ≡ breaks t
+    → lf ≡ lfFirst t → cr ≡ crLast t → TextFine t r lf cr
+text-is t r lf cr v b c u l f e =
+    let raw = raw-text t v in
+    record {
+      valid = v;
+      told = record {
+        counts = sum-is r (sumOf (decode t)) (b ∙ ap (λ (i : TextInfo). i .bytes) raw) (c ∙ ap (λ (i : TextInfo). i .chars) raw) (u ∙ ap (λ (i : TextInfo). i .«utf16_surrogates») raw) (l ∙ ap (λ (i : TextInfo). i .«line_breaks») raw);
+        first = f;
+        last = e;
+      };
+    }
 
 -- the same text by another name
 pub text-same : (s t : List ℕ) → s ≡ t → (r : Met) → TextMet s r → TextMet t r

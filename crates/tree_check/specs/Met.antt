@@ -50,10 +50,6 @@ abbrev pub TextMet : List ℕ → Met → Type 0
 TextMet t (Fine sum lf cr) = TextFine t sum lf cr
 TextMet t Bad = validUtf8 t ≡ true → ⊥
 
--- counts of 32 bits, as wide as sums are
-abbrev pub widened : TextInfo → TextSum
-widened i = record { bytes = i .bytes; chars = i .chars; «utf16_surrogates» = i .«utf16_surrogates»; «line_breaks» = i .«line_breaks» }
-
 -- ── a node ──
 
 -- a slot that can be a node of height h: a leaf or a list with its length, which is `least` or more

@@ -7,12 +7,14 @@ use crate::texts::check_leaf;
 use crate::texts::follows;
 use crate::texts::plus;
 pub use crate::texts::tells;
+use answer::Number;
 use nodes::MIN_BYTES;
 use nodes::MIN_LEN;
-use pool::Entry;
 use pool::Head;
+use pool::child_of;
 use pool::head_of;
-use pool::walked_kid;
+use pool::info_of;
+use text_info::Info;
 use text_info::TextSum;
 ghost use mathlib.Core.Path.{_≡_};
 ghost use mathlib.Core.Bool.{false};
@@ -100,17 +102,19 @@ fn check_list(m: &[u8], seen: &mut [u8], level: u8, slot: usize, n: usize) -> Me
     let mut cr = false;
     let mut i = 0;
     while i < n {
-        let Entry::Is(kid) = walked_kid(m, slot, i) else {
+        let Number::Is(child) = child_of(m, slot, i) else {
             return Met::Bad;
         };
-        let Met::Fine(got, first, last) = check_node(m, seen, level, kid.slot as usize, least)
-        else {
+        let Info::Is(info) = info_of(m, slot, i) else {
             return Met::Bad;
         };
-        if !follows(kid.info, got, cr, first) {
+        let Met::Fine(got, first, last) = check_node(m, seen, level, child, least) else {
+            return Met::Bad;
+        };
+        if !follows(info, got, cr, first) {
             return Met::Bad;
         }
-        sum = plus(sum, kid.info);
+        sum = plus(sum, info);
         lf = begun(i, lf, first);
         cr = last;
         i += 1;

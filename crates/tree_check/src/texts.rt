@@ -1,33 +1,24 @@
 // The text of a leaf, and what joins the texts of children: their counts, and how a text begins and ends.
 use crate::Met;
 use answer::Number;
+use lines_crlf::survey::of_text;
 use pool::region_start;
-use text_info::Info;
+use str_indices::chars;
+use str_indices::utf16;
 use text_info::TextInfo;
 use text_info::TextSum;
 ghost use mathlib.Core.Path.{_≡_};
-ghost use mathlib.Core.Bool.{false};
+ghost use mathlib.Core.Bool.{true, false};
 ghost use Prim.Native.Nat.{_≤_};
-ghost use lib.ListN.{length};
-ghost use Rattle.plain.specs.Count.{lfFirst, crLast};
+ghost use Rattle.plain.specs.Utf8.{validUtf8};
+ghost use Rattle.plain.specs.Place.{isStart, isWide};
+ghost use Rattle.plain.specs.Count.{countIf, breaks, lfFirst, crLast};
 ghost use Rattle.leaf_bytes.specs.Leaf.{leafOf};
 ghost use Rattle.pool.specs.Slot.{regionOf};
 ghost use Rattle.pool.specs.Calls.{outside};
 ghost use Rattle.child_search.specs.Sought.{Within, Plus};
 ghost use Rattle.tree.specs.Tree as tree;
 ghost use Rattle.tree_check.specs.Met as met;
-
-// Counts as wide as sums are.
-fn widened(info: TextInfo) -> TextSum
-    ensures { λ r. ⌜ r ≡ met.widened info ⌝ }
-{
-    TextSum {
-        bytes: info.bytes as u64,
-        chars: info.chars as u64,
-        utf16_surrogates: info.utf16_surrogates as u64,
-        line_breaks: info.line_breaks as u64,
-    }
-}
 
 fn begins_lf(text: &[u8]) -> bool
     ensures { λ r. ⌜ r ≡ lfFirst (now (text .entry)) ⌝ }
@@ -48,15 +39,44 @@ fn ends_cr(text: &[u8]) -> bool
     text[n - 1] == b'\r'
 }
 
-// A text by itself: one pass for its form and its counts.
-fn check_text(text: &[u8]) -> Met
-    requires { ⌜ length (now text) ≤ 512 ⌝ }
+// What is told of a text that is one, from the counts of its bytes.
+fn fine(text: &[u8], starts: usize, pairs: usize, lines: usize) -> Met
+    requires { ⌜ (validUtf8 (now text) ≡ true) × (starts ≡ countIf isStart (now text)) × (pairs ≡ countIf isWide (now text)) × (lines ≡ breaks (now text)) ⌝ }
     ensures { λ r. ⌜ met.TextMet (now (text .entry)) r ⌝ }
 {
-    match TextInfo::of_leaf(text) {
-        Info::Refused(_) => Met::Bad,
-        Info::Is(info) => Met::Fine(widened(info), begins_lf(text), ends_cr(text)),
+    let sum = TextSum {
+        bytes: text.len() as u64,
+        chars: starts as u64,
+        utf16_surrogates: pairs as u64,
+        line_breaks: lines as u64,
+    };
+    Met::Fine(sum, begins_lf(text), ends_cr(text))
+}
+
+// A text by itself, its form and its counts in as few passes as its highest byte allows: ASCII is text, with as many chars as bytes; below F0 no
+// char has four bytes.
+fn check_text(text: &[u8]) -> Met
+    ensures { λ r. ⌜ met.TextMet (now (text .entry)) r ⌝ }
+{
+    let s = of_text(text);
+    if s.high < 0x80 {
+        return fine(text, text.len(), 0, s.count);
     }
+    if s.high < 0xF0 {
+        if !utf8::valid_bmp(text) {
+            return Met::Bad;
+        }
+        return fine(text, chars::count(text), 0, s.count);
+    }
+    if !utf8::valid(text) {
+        return Met::Bad;
+    }
+    fine(
+        text,
+        chars::count(text),
+        utf16::count_surrogates(text),
+        s.count,
+    )
 }
 
 // The text in the first n bytes of a slot's region.

@@ -1,20 +1,15 @@
--- A text is well formed exactly where no window of four bytes is wrong and no char is left unfinished. And the turns and the ends of loops
--- over windows.
+-- A text is well formed exactly where no window of four bytes is wrong and no char is left unfinished (`valid-scan`).
 use mathlib.Core.Path.{_≡_, refl, sym, ap, _∙_}
-use mathlib.Core.Bool.{Bool, true, false, not, _&&_, _||_, cond, Bool·beq}
+use mathlib.Core.Bool.{Bool, true, false, not, _&&_, _||_, cond, Bool·beq, or-true}
 use mathlib.Core.List.{List, [], _∷_}
-use Prim.Native.Nat.{ℕ, zero, suc, _+_, _-_, _≤_, _<_, suc-le-suc}
+use Prim.Native.Nat.{ℕ, suc, _≤_, _<_}
 use native.Mathlib.Omega.{arith}
-use native.Mathlib.Numerals.{add-one}
 use lib.Dec.{ltb, leb, eqb}
-use lib.ListN.{length, getD, drop, drop-of-length-le}
-use lib.Seq.{drop-cons}
 use borrow.Author.Tests.{lt-ltb, le-ltb, le-leb, lt-leb, ne-eqb}
 use Rattle.plain.specs.Utf8.{Row, row, within, classOf, rowOf, due, validUtf8}
 use Rattle.plain.proofs.Logic.{cut}
 use Rattle.plain.proofs.Table.{within-yes, within-low, within-high, View, View.none, View.row1, View.row2, View.row3, View.row4, View.row5, View.row6, View.row7, View.row8, View.row9, view, class-1, class-2, class-3, class-4, class-5, class-6, class-7, class-8, class-9}
-use Rattle.plain.proofs.Utf8.{due-ascii}
-use Rattle.utf8.specs.Window.{Below, owed, isLater, outOf, badAt, badNear, scan, wrongAt, scanAt, Parted}
+use Rattle.utf8.specs.Window.{owed, isLater, outOf, badAt, scan}
 use Rattle.utf8.proofs.Classes.{none-due}
 
 -- ── what is due behind three bytes ──
@@ -37,8 +32,8 @@ Tidy y z = 0xC0 ≤ z → y < 0xC0
 
 -- one byte more: its window is wrong, and nothing is accepted from it on; or it is not, and what is due goes on
 data Turn (x y z b : ℕ) : Type 0 where
-  wrong : badAt x y z b ≡ true → ((bs : List ℕ) → dueBy (asked x y z) (b ∷ bs) ≡ false) → Turn x y z b
-  right : badAt x y z b ≡ false → ((bs : List ℕ) → dueBy (asked x y z) (b ∷ bs) ≡ dueBy (asked y z b) bs) → Tidy z b → Turn x y z b
+  wrong : badAt true x y z b ≡ true → ((bs : List ℕ) → dueBy (asked x y z) (b ∷ bs) ≡ false) → Turn x y z b
+  right : badAt true x y z b ≡ false → ((bs : List ℕ) → dueBy (asked x y z) (b ∷ bs) ≡ dueBy (asked y z b) bs) → Tidy z b → Turn x y z b
 
 -- ── bytes by the tests ──
 
@@ -54,38 +49,30 @@ later-high : (b : ℕ) → 0xC0 ≤ b → isLater b ≡ false
 unfolding isLater
 later-high b h = let z : 0x80 ≤ b = omega arith in simp (le-leb, le-ltb)
 
-in-low : (z b : ℕ) → z < 0xC0 → outOf z b ≡ false
+in-low : (z b : ℕ) → z < 0xC0 → outOf true z b ≡ false
 unfolding outOf
 in-low z b h =
     let p : z < 0xF5 = omega arith in
     simp (ne-eqb z 0xE0 (λ e. omega arith), ne-eqb z 0xED (λ e. omega arith), ne-eqb z 0xF0 (λ e. omega arith), ne-eqb z 0xF4 (λ e. omega arith), lt-leb)
 
-owed-z : (x y z : ℕ) → 0xC0 ≤ z → owed x y z ≡ true
+owed-z : (x y z : ℕ) → 0xC0 ≤ z → owed true x y z ≡ true
 unfolding owed
 owed-z x y z h = simp le-leb
 
-owed-y : (x y z : ℕ) → z < 0xC0 → 0xE0 ≤ y → owed x y z ≡ true
+owed-y : (x y z : ℕ) → z < 0xC0 → 0xE0 ≤ y → owed true x y z ≡ true
 unfolding owed
 owed-y x y z h k = simp (lt-leb, le-leb)
 
-owed-x : (x y z : ℕ) → z < 0xC0 → y < 0xE0 → 0xF0 ≤ x → owed x y z ≡ true
+owed-x : (x y z : ℕ) → z < 0xC0 → y < 0xE0 → 0xF0 ≤ x → owed true x y z ≡ true
 unfolding owed
 owed-x x y z h k l = simp (lt-leb, le-leb)
 
-owed-no : (x y z : ℕ) → z < 0xC0 → y < 0xE0 → x < 0xF0 → owed x y z ≡ false
+owed-no : (x y z : ℕ) → z < 0xC0 → y < 0xE0 → x < 0xF0 → owed true x y z ≡ false
 unfolding owed
 owed-no x y z h k l = simp lt-leb
 
-or-true : (t : Bool) → (t || true) ≡ true
-or-true true = refl
-or-true false = refl
-
-or-assoc : (a b c : Bool) → ((a || b) || c) ≡ (a || (b || c))
-or-assoc true b c = refl
-or-assoc false b c = refl
-
 -- the parts of `badAt`
-bad-parts : (x y z b : ℕ) (o l u : Bool) → owed x y z ≡ o → isLater b ≡ l → outOf z b ≡ u → badAt x y z b ≡ (not (Bool·beq o l) || u)
+bad-parts : (x y z b : ℕ) (o l u : Bool) → owed true x y z ≡ o → isLater b ≡ l → outOf true z b ≡ u → badAt true x y z b ≡ (not (Bool·beq o l) || u)
 unfolding badAt
 bad-parts x y z b o l u p q r = λ i. not (Bool·beq (p i) (q i)) || r i
 
@@ -150,7 +137,7 @@ class-later b h k = go (view b)
 -- ── one byte more ──
 
 -- a later byte is owed, with n more behind it
-owing : (x y z b n : ℕ) → owed x y z ≡ true → outOf z b ≡ false → asked x y z ≡ rest (suc n) → (b < 0xC0 → asked y z b ≡ rest n) → Turn x y z b
+owing : (x y z b n : ℕ) → owed true x y z ≡ true → outOf true z b ≡ false → asked x y z ≡ rest (suc n) → (b < 0xC0 → asked y z b ≡ rest n) → Turn x y z b
 owing x y z b n o u d next =
     cut b 0x80 (λ h. wrong (bad-parts x y z b true false false o (later-low b h) u) (λ bs. ap (λ (r : Row). dueBy r (b ∷ bs)) d ∙ step-low n 0x80 0xBF b bs h)) (λ h.
     cut b 0xC0 (λ k. right (bad-parts x y z b true true false o (later-yes b h k) u) (λ bs. ap (λ (r : Row). dueBy r (b ∷ bs)) d ∙ step-next n 0x80 0xBF b bs h (omega arith) ∙ sym (ap (λ (r : Row). dueBy r bs) (next k))) (λ m. absurd (omega arith)))
@@ -169,34 +156,34 @@ free x y z b hz hy hx =
 
 -- z is a first byte, with the range from lo to hi for the second, and n more behind that
 module _ (x y z b n : ℕ) (r : Row) (hz : 0xC0 ≤ z) (f : rowOf (classOf z) ≡ r) (m : r .more ≡ suc n) (hl : 0x80 ≤ r .low) (hh : r .high < 0xC0) where
-  second : (r .low ≤ b → b ≤ r .high → outOf z b ≡ false) → (0x80 ≤ b → b < r .low → outOf z b ≡ true) → (r .high < b → b < 0xC0 → outOf z b ≡ true) → (b < 0xC0 → asked y z b ≡ rest n) → Turn x y z b
+  second : (r .low ≤ b → b ≤ r .high → outOf true z b ≡ false) → (0x80 ≤ b → b < r .low → outOf true z b ≡ true) → (r .high < b → b < 0xC0 → outOf true z b ≡ true) → (b < 0xC0 → asked y z b ≡ rest n) → Turn x y z b
   second fits under-it over next =
       let o = owed-z x y z hz in
       let d : (bs : List ℕ) → dueBy (asked x y z) (b ∷ bs) ≡ due (suc n) (r .low) (r .high) (b ∷ bs) =
       λ bs. ap (λ (q : Row). dueBy q (b ∷ bs)) (asked-z x y z hz ∙ f) ∙ ap (λ (k : ℕ). due k (r .low) (r .high) (b ∷ bs)) m in
-      cut b (r .low) (λ h. cut b 0x80 (λ l. wrong (bad-parts x y z b true false (outOf z b) o (later-low b l) refl) (λ bs. d bs ∙ step-low n (r .low) (r .high) b bs h))
+      cut b (r .low) (λ h. cut b 0x80 (λ l. wrong (bad-parts x y z b true false (outOf true z b) o (later-low b l) refl) (λ bs. d bs ∙ step-low n (r .low) (r .high) b bs h))
       (λ l. wrong (bad-parts x y z b true (isLater b) true o refl (under-it l h) ∙ or-true (not (Bool·beq true (isLater b)))) (λ bs. d bs ∙ step-low n (r .low) (r .high) b bs h))) (λ h.
       cut (r .high) b (λ k. cut b 0xC0 (λ l. wrong (bad-parts x y z b true (isLater b) true o refl (over k l) ∙ or-true (not (Bool·beq true (isLater b)))) (λ bs. d bs ∙ step-high n (r .low) (r .high) b bs k))
-      (λ l. wrong (bad-parts x y z b true false (outOf z b) o (later-high b l) refl) (λ bs. d bs ∙ step-high n (r .low) (r .high) b bs k)))
+      (λ l. wrong (bad-parts x y z b true false (outOf true z b) o (later-high b l) refl) (λ bs. d bs ∙ step-high n (r .low) (r .high) b bs k)))
       (λ k. right (bad-parts x y z b true true false o (later-yes b (omega arith) (omega arith)) (fits h k)) (λ bs. d bs ∙ step-next n (r .low) (r .high) b bs h k ∙ sym (ap (λ (q : Row). dueBy q bs) (next (omega arith)))) (λ w. absurd (omega arith))))
 
 -- nothing special of the second byte
-plain : (z b : ℕ) → 0xC2 ≤ z → z < 0xF5 → (z ≡ 0xE0 → ⊥) → (z ≡ 0xED → ⊥) → (z ≡ 0xF0 → ⊥) → (z ≡ 0xF4 → ⊥) → outOf z b ≡ false
+plain : (z b : ℕ) → 0xC2 ≤ z → z < 0xF5 → (z ≡ 0xE0 → ⊥) → (z ≡ 0xED → ⊥) → (z ≡ 0xF0 → ⊥) → (z ≡ 0xF4 → ⊥) → outOf true z b ≡ false
 unfolding outOf
 plain z b h k p q r s =
     let l : 0xC0 ≤ z = omega arith in
     simp (ne-eqb z 0xE0 p, ne-eqb z 0xED q, ne-eqb z 0xF0 r, ne-eqb z 0xF4 s, le-leb 0xC0 z l, le-ltb, lt-leb)
 
-none-c0 : (z b : ℕ) → 0xC0 ≤ z → z < 0xC2 → outOf z b ≡ true
+none-c0 : (z b : ℕ) → 0xC0 ≤ z → z < 0xC2 → outOf true z b ≡ true
 unfolding outOf
 none-c0 z b h k = simp (ne-eqb z 0xE0 (λ e. omega arith), ne-eqb z 0xED (λ e. omega arith), ne-eqb z 0xF0 (λ e. omega arith), ne-eqb z 0xF4 (λ e. omega arith), le-leb)
 
-none-f5 : (z b : ℕ) → 0xF5 ≤ z → outOf z b ≡ true
+none-f5 : (z b : ℕ) → 0xF5 ≤ z → outOf true z b ≡ true
 unfolding outOf
 none-f5 z b h = simp (le-leb 0xF5 z h) (or-true ((((((eqb z 0xE0 && ltb b 0xA0) || (eqb z 0xED && leb 0xA0 b)) || (eqb z 0xF0 && ltb b 0x90)) || (eqb z 0xF4 && leb 0x90 b)) || (leb 0xC0 z && ltb z 0xC2))))
 
 -- z begins no row
-never : (x y z b : ℕ) → 0xC0 ≤ z → classOf z ≡ 0 → outOf z b ≡ true → Turn x y z b
+never : (x y z b : ℕ) → 0xC0 ≤ z → classOf z ≡ 0 → outOf true z b ≡ true → Turn x y z b
 unfolding rowOf
 never x y z b hz e u =
     wrong (bad-parts x y z b true (isLater b) true (owed-z x y z hz) refl u ∙ or-true (not (Bool·beq true (isLater b))))
@@ -228,13 +215,13 @@ turn-first x y z b hz t = go (view z)
     go (none e) = never-in x y z b hz e
     go (row1 h e) = absurd (omega arith)
     go (row2 h1 h2 e) = second x y z b 0 (rowOf 2) hz (row-at z 2 e) refl (omega arith) (omega arith) (λ h k. plain z b h1 (omega arith) (λ q. omega arith) (λ q. omega arith) (λ q. omega arith) (λ q. omega arith)) (λ h k. absurd (omega arith)) (λ h k. absurd (omega arith)) (λ h. asked-0 y z b h (omega arith) (omega (arith, t hz)))
-    go (row3 h e) = second x y z b 1 (rowOf 3) hz (row-at z 3 e) refl (omega arith) (omega arith) (λ m k. ap (λ (v : ℕ). outOf v b) h ∙ simp (le-ltb b 0xA0 m)) (λ m k. ap (λ (v : ℕ). outOf v b) h ∙ simp (lt-ltb b 0xA0 k)) (λ m k. absurd (omega arith)) (λ m. asked-3 y z b m (omega arith) (omega arith))
+    go (row3 h e) = second x y z b 1 (rowOf 3) hz (row-at z 3 e) refl (omega arith) (omega arith) (λ m k. ap (λ (v : ℕ). outOf true v b) h ∙ simp (le-ltb b 0xA0 m)) (λ m k. ap (λ (v : ℕ). outOf true v b) h ∙ simp (lt-ltb b 0xA0 k)) (λ m k. absurd (omega arith)) (λ m. asked-3 y z b m (omega arith) (omega arith))
     go (row4 h1 h2 e) = second x y z b 1 (rowOf 4) hz (row-at z 4 e) refl (omega arith) (omega arith) (λ h k. plain z b (omega arith) (omega arith) (λ q. omega arith) (λ q. omega arith) (λ q. omega arith) (λ q. omega arith)) (λ h k. absurd (omega arith)) (λ h k. absurd (omega arith)) (λ m. asked-3 y z b m (omega arith) (omega arith))
-    go (row5 h e) = second x y z b 1 (rowOf 5) hz (row-at z 5 e) refl (omega arith) (omega arith) (λ m k. ap (λ (v : ℕ). outOf v b) h ∙ simp (lt-leb 0xA0 b (omega arith))) (λ m k. absurd (omega arith)) (λ m k. ap (λ (v : ℕ). outOf v b) h ∙ simp (le-leb 0xA0 b (omega arith))) (λ m. asked-3 y z b m (omega arith) (omega arith))
+    go (row5 h e) = second x y z b 1 (rowOf 5) hz (row-at z 5 e) refl (omega arith) (omega arith) (λ m k. ap (λ (v : ℕ). outOf true v b) h ∙ simp (lt-leb 0xA0 b (omega arith))) (λ m k. absurd (omega arith)) (λ m k. ap (λ (v : ℕ). outOf true v b) h ∙ simp (le-leb 0xA0 b (omega arith))) (λ m. asked-3 y z b m (omega arith) (omega arith))
     go (row6 h1 h2 e) = second x y z b 1 (rowOf 6) hz (row-at z 6 e) refl (omega arith) (omega arith) (λ h k. plain z b (omega arith) (omega arith) (λ q. omega arith) (λ q. omega arith) (λ q. omega arith) (λ q. omega arith)) (λ h k. absurd (omega arith)) (λ h k. absurd (omega arith)) (λ m. asked-3 y z b m (omega arith) (omega arith))
-    go (row7 h e) = second x y z b 2 (rowOf 7) hz (row-at z 7 e) refl (omega arith) (omega arith) (λ m k. ap (λ (v : ℕ). outOf v b) h ∙ simp (le-ltb b 0x90 m)) (λ m k. ap (λ (v : ℕ). outOf v b) h ∙ simp (lt-ltb b 0x90 k)) (λ m k. absurd (omega arith)) (λ m. asked-4 y z b m (omega arith))
+    go (row7 h e) = second x y z b 2 (rowOf 7) hz (row-at z 7 e) refl (omega arith) (omega arith) (λ m k. ap (λ (v : ℕ). outOf true v b) h ∙ simp (le-ltb b 0x90 m)) (λ m k. ap (λ (v : ℕ). outOf true v b) h ∙ simp (lt-ltb b 0x90 k)) (λ m k. absurd (omega arith)) (λ m. asked-4 y z b m (omega arith))
     go (row8 h1 h2 e) = second x y z b 2 (rowOf 8) hz (row-at z 8 e) refl (omega arith) (omega arith) (λ h k. plain z b (omega arith) (omega arith) (λ q. omega arith) (λ q. omega arith) (λ q. omega arith) (λ q. omega arith)) (λ h k. absurd (omega arith)) (λ h k. absurd (omega arith)) (λ m. asked-4 y z b m (omega arith))
-    go (row9 h e) = second x y z b 2 (rowOf 9) hz (row-at z 9 e) refl (omega arith) (omega arith) (λ m k. ap (λ (v : ℕ). outOf v b) h ∙ simp (lt-leb 0x90 b (omega arith))) (λ m k. absurd (omega arith)) (λ m k. ap (λ (v : ℕ). outOf v b) h ∙ simp (le-leb 0x90 b (omega arith))) (λ m. asked-4 y z b m (omega arith))
+    go (row9 h e) = second x y z b 2 (rowOf 9) hz (row-at z 9 e) refl (omega arith) (omega arith) (λ m k. ap (λ (v : ℕ). outOf true v b) h ∙ simp (lt-leb 0x90 b (omega arith))) (λ m k. absurd (omega arith)) (λ m k. ap (λ (v : ℕ). outOf true v b) h ∙ simp (le-leb 0x90 b (omega arith))) (λ m. asked-4 y z b m (omega arith))
 
 turn : (x y z b : ℕ) → Tidy y z → Turn x y z b
 turn x y z b t =
@@ -247,7 +234,7 @@ turn x y z b t =
 -- ── the whole text ──
 
 -- a char is left unfinished exactly where a byte is due
-ended : (x y z : ℕ) → dueBy (asked x y z) [] ≡ not (owed x y z)
+ended : (x y z : ℕ) → dueBy (asked x y z) [] ≡ not (owed true x y z)
 unfolding due rowOf
 ended x y z =
     cut z 0xC0 (λ hz.
@@ -255,7 +242,7 @@ ended x y z =
     (λ hy. cut y 0xF0 (λ k. by (asked-3 x y z hz hy k) (owed-y x y z hz hy) refl) (λ k. by (asked-4 x y z hz k) (owed-y x y z hz hy) refl)))
     (λ hz. by (asked-z x y z hz) (owed-z x y z hz) (first hz (view z)))
   where
-    by : {r : Row} {t : Bool} → asked x y z ≡ r → owed x y z ≡ t → dueBy r [] ≡ not t → dueBy (asked x y z) [] ≡ not (owed x y z)
+    by : {r : Row} {t : Bool} → asked x y z ≡ r → owed true x y z ≡ t → dueBy r [] ≡ not t → dueBy (asked x y z) [] ≡ not (owed true x y z)
     by {r} {t} p q e = ap (λ (v : Row). dueBy v []) p ∙ e ∙ ap not (sym q)
 
     at : (k : ℕ) → classOf z ≡ k → dueBy (rowOf k) [] ≡ false → dueBy (rowOf (classOf z)) [] ≡ false
@@ -273,101 +260,16 @@ ended x y z =
     first hz (row8 h1 h2 e) = at 8 e refl
     first hz (row9 h e) = at 9 e refl
 
-scanned : (bs : List ℕ) (x y z : ℕ) → Tidy y z → dueBy (asked x y z) bs ≡ not (scan x y z bs)
+scanned : (bs : List ℕ) (x y z : ℕ) → Tidy y z → dueBy (asked x y z) bs ≡ not (scan true x y z bs)
 unfolding scan
 scanned [] x y z t = ended x y z
 scanned (b ∷ bs) x y z t = go (scanned bs y z b) (turn x y z b t)
   where
-    go : (Tidy z b → dueBy (asked y z b) bs ≡ not (scan y z b bs)) → Turn x y z b → dueBy (asked x y z) (b ∷ bs) ≡ not (badAt x y z b || scan y z b bs)
-    go f (wrong p q) = q bs ∙ sym (ap (λ (u : Bool). not (u || scan y z b bs)) p)
-    go f (right p q r) = q bs ∙ f r ∙ sym (ap (λ (u : Bool). not (u || scan y z b bs)) p)
+    go : (Tidy z b → dueBy (asked y z b) bs ≡ not (scan true y z b bs)) → Turn x y z b → dueBy (asked x y z) (b ∷ bs) ≡ not (badAt true x y z b || scan true y z b bs)
+    go f (wrong p q) = q bs ∙ sym (ap (λ (u : Bool). not (u || scan true y z b bs)) p)
+    go f (right p q r) = q bs ∙ f r ∙ sym (ap (λ (u : Bool). not (u || scan true y z b bs)) p)
 
--- THEOREM: well formed is what no scan finds fault with
-pub valid-scan : (bs : List ℕ) → validUtf8 bs ≡ not (scan 0 0 0 bs)
+-- THEOREM: well formed is what no scan true finds fault with
+pub valid-scan : (bs : List ℕ) → validUtf8 bs ≡ not (scan true 0 0 0 bs)
 unfolding validUtf8
 valid-scan bs = ap (λ (r : Row). dueBy r bs) (sym (asked-0 0 0 0 (omega arith) (omega arith) (omega arith))) ∙ scanned bs 0 0 0 (λ h. absurd (omega arith))
-
--- ── ASCII alone ──
-
-pub ascii-valid : (s : List ℕ) → Below 0x80 s → true ≡ validUtf8 s
-unfolding validUtf8
-ascii-valid [] f = unfold due in refl
-ascii-valid (b ∷ s) f = ascii-valid s (λ k h. f (suc k) (suc-le-suc h)) ∙ sym (due-ascii 0x80 0xBF b s (f 0 (omega arith)))
-
--- ── where no byte is from F0 on ──
-
-or-false : (t : Bool) → (t || false) ≡ t
-or-false true = refl
-or-false false = refl
-
-regroup : (n a b c : Bool) → (((n || a) || b) || c) ≡ (n || ((a || b) || c))
-regroup true a b c = refl
-regroup false a b c = refl
-
-pub near : (x y z b : ℕ) → x < 0xF0 → z < 0xF0 → badNear y z b ≡ badAt x y z b
-unfolding badNear badAt owed outOf
-near x y z b hx hz =
-    let h5 : z < 0xF5 = omega arith in
-    regroup (not (Bool·beq (leb 0xC0 z || leb 0xE0 y) (isLater b))) (eqb z 0xE0 && ltb b 0xA0) (eqb z 0xED && leb 0xA0 b) (leb 0xC0 z && ltb z 0xC2)
-    ∙ sym (simp (lt-leb 0xF0 x hx, lt-leb 0xF5 z h5, ne-eqb z 0xF0 (λ e. omega arith), ne-eqb z 0xF4 (λ e. omega arith), or-false))
-
--- ── loops over windows ──
-
-pub scan-turn : (s : List ℕ) (i : ℕ) → 3 ≤ i → i < length s → scanAt s i ≡ (wrongAt s i || scanAt s (i + 1))
-unfolding scan
-scan-turn s i h k =
-    let a : i - 2 ≡ i + 1 - 3 = omega arith in
-    let b : i - 1 ≡ i + 1 - 2 = omega arith in
-    let d : i ≡ i + 1 - 1 = omega arith in
-    let x : ℕ = getD s (i - 3) 0 in
-    let y : ℕ = getD s (i - 2) 0 in
-    let z : ℕ = getD s (i - 1) 0 in
-    ap (scan x y z) (drop-cons s i 0 k)
-    ∙ (λ j. badAt x y z (getD s i 0) || scan (getD s (a j) 0) (getD s (b j) 0) (getD s (d j) 0) (drop (sym (add-one i) j) s))
-
-scan-end : (s : List ℕ) → owed (getD s (length s - 3) 0) (getD s (length s - 2) 0) (getD s (length s - 1) 0) ≡ scanAt s (length s)
-unfolding scan
-scan-end s = ap (scan (getD s (length s - 3) 0) (getD s (length s - 2) 0) (getD s (length s - 1) 0)) (sym (drop-of-length-le s {i = length s} (omega arith)))
-
-pub scan-head : (s : List ℕ) → 3 ≤ length s
-    → (((badAt 0 0 0 (getD s 0 0) || badAt 0 0 (getD s 0 0) (getD s 1 0)) || badAt 0 (getD s 0 0) (getD s 1 0) (getD s 2 0)) || scan (getD s 0 0) (getD s 1 0) (getD s 2 0) (drop 3 s)) ≡ scan 0 0 0 s
-unfolding scan
-scan-head [] h = absurd (omega arith)
-scan-head (a ∷ []) h = absurd (omega arith)
-scan-head (a ∷ b ∷ []) h = absurd (omega arith)
-scan-head (a ∷ b ∷ c ∷ s) h = or-assoc (badAt 0 0 0 a || badAt 0 0 a b) (badAt 0 a b c) (scan a b c s) ∙ or-assoc (badAt 0 0 0 a) (badAt 0 0 a b) (badAt 0 a b c || scan a b c s)
-
--- a part of no window, and one window more
-pub part-none : (s : List ℕ) (a : ℕ) → Parted s a a false
-part-none s a = record { scanned = refl; each = λ k h l e. absurd (omega arith) }
-
-or-kept : (a b : Bool) → a ≡ true → (a || b) ≡ true
-or-kept a b e = ap (λ (t : Bool). t || b) e
-
-pub part-more : (s : List ℕ) (a i : ℕ) (w v : Bool) → 3 ≤ a → a ≤ i → i < length s → Parted s a i w → v ≡ wrongAt s i → Parted s a (i + 1) (w || v)
-part-more s a i w v h k l p e = record {
-  scanned =
-      ap (λ (t : Bool). (w || t) || scanAt s (i + 1)) e ∙ or-assoc w (wrongAt s i) (scanAt s (i + 1))
-      ∙ ap (λ (t : Bool). w || t) (sym (scan-turn s i (omega arith) l)) ∙ p .scanned;
-  each = λ j g m q. cut j i (λ n. or-kept w v (p .each j g n q)) (λ n.
-      let same : j ≡ i = omega arith in
-      ap (λ (t : Bool). w || t) (e ∙ sym (ap (wrongAt s) same) ∙ q) ∙ or-true w);
-}
-
--- windows that were looked at may be looked at again
-again : (s : List ℕ) (a e : ℕ) (p : Bool) → 3 ≤ a → e ≤ length s → Parted s a e p → (d j : ℕ) → a ≤ j → e ≡ j + d → (p || scanAt s j) ≡ (p || scanAt s e)
-again s a e p h k f zero j g q = let same : j ≡ e = omega arith in ap (λ (i : ℕ). p || scanAt s i) same
-again s a e p h k f (suc d) j g q = go (again s a e p h k f d (j + 1) (omega arith) (omega arith)) (wrongAt s j) refl
-  where
-    go : (p || scanAt s (j + 1)) ≡ (p || scanAt s e) → (t : Bool) → wrongAt s j ≡ t → (p || scanAt s j) ≡ (p || scanAt s e)
-    go next true w = let y = f .each j g (omega arith) w in ap (λ (t : Bool). t || scanAt s j) y ∙ sym (ap (λ (t : Bool). t || scanAt s e) y)
-    go next false w = ap (λ (t : Bool). p || t) (scan-turn s j (omega arith) (omega arith) ∙ ap (λ (t : Bool). t || scanAt s (j + 1)) w) ∙ next
-
--- two parts that lie on one another, and both ends of the text
-pub scan-whole : (s : List ℕ) (e j : ℕ) (h p q u : Bool) → e ≤ length s → 3 ≤ j → j ≤ e
-    → (h || scanAt s 3) ≡ scan 0 0 0 s → Parted s 3 e p → Parted s j (length s) q
-    → u ≡ owed (getD s (length s - 3) 0) (getD s (length s - 2) 0) (getD s (length s - 1) 0)
-    → (((h || p) || q) || u) ≡ scan 0 0 0 s
-scan-whole s e j h p q u k l m begun first last done =
-    or-assoc (h || p) q u ∙ ap (λ (t : Bool). (h || p) || (q || t)) (done ∙ scan-end s) ∙ ap (λ (t : Bool). (h || p) || t) (last .scanned)
-    ∙ or-assoc h p (scanAt s j) ∙ ap (λ (t : Bool). h || t) (again s 3 e p (omega arith) k first (e - j) j l (omega arith) ∙ first .scanned) ∙ begun

@@ -50,8 +50,9 @@ fn main() -> ExitCode {
             beyond::measure();
         }
         ["--edits"] => beyond::measure(),
+        ["--growth"] => growth::measure(),
         _ => {
-            eprintln!("bench [--edits]");
+            eprintln!("bench [--edits | --growth]");
             return ExitCode::from(2);
         }
     }

@@ -8,21 +8,22 @@ use borrow.Author.Needs.{needs}
 use borrow.Author.Tests.{not-true, not-false}
 use borrow.Fn.Kinds.{In}
 use borrow.Fn.PlainCycle.{Measures, is, falls, and}
-use Rattle.pool.proofs.Opened.{entry-opened, entry-there}
+use Rattle.pool.proofs.Opened.{child-opened, child-there, info-opened, info-there}
 use Rattle.nodes.proofs.Heads.{inside, not-outside, leaf-says, list-says}
 use Rattle.child_search.specs.Sought.{Within}
 use Rattle.child_search.proofs.Sums.{within-none, within-more, within-plus}
 use Rattle.tree_check.specs.Met.{KidsFine, kidsTo}
 use Rattle.tree_check.proofs.Marks.{past-bad, met-bad}
 use Rattle.tree_check.proofs.Nodes.{leaf-met, list-met, shape-is}
-use Rattle.tree_check.proofs.Children.{kids-none, child-met, turn-more, turn-bad, turn-off}
+use Rattle.tree_check.proofs.Children.{kids-none, parts-opened, child-met, turn-more, turn-bad, turn-off}
 use Rattle.tree_check.proofs.check_list.Reads as check-list
 use Rattle.tree_check.proofs.check_list.Kinds as check-list-kinds
 use Rattle.tree_check.proofs.+check_list+check_node.Lts-check_list as check-list-lts
 use Rattle.tree_check.proofs.check_node.Reads as check-node
 use Rattle.tree_check.proofs.check_node.Kinds as check-node-kinds
 use Rattle.tree_check.proofs.+check_list+check_node.Lts-check_node as check-node-lts
-use Rattle.pool.proofs.walked_kid.Reads as walked-kid-reads
+use Rattle.pool.proofs.child_of.Reads as child-of-reads
+use Rattle.pool.proofs.info_of.Reads as info-of-reads
 use Rattle.text_info.proofs.TextSum.new.Reads as new-reads
 use Rattle.tree_check.proofs.least_of.Reads as least-of-reads
 use Rattle.tree_check.proofs.shape_of.Reads as shape-of-reads
@@ -61,8 +62,10 @@ list-calls t = (
   least-of-reads.Learnt,
   new-reads.Asked,
   new-reads.Learnt,
-  walked-kid-reads.Asked,
-  walked-kid-reads.Learnt,
+  child-of-reads.Asked,
+  child-of-reads.Learnt,
+  info-of-reads.Asked,
+  info-of-reads.Learnt,
   check-node-below t,
   check-node.Post,
   follows-reads.Asked,
@@ -101,11 +104,11 @@ list-new-requires t c κs = search needs
 list-loop-holds : (t : ℕ) → check-list-lts.Need-loop-holds (list-calls t) (check-list-at t) check-list.Post Inv μ-loop
 list-loop-holds t c = (omega arith, refl, within-none _ (c .new .ensures), kids-none _ _ _ _ (c .new .ensures))
 
-list-walked-kid-requires : (t : ℕ) → check-list-lts.Need-walked-kid-requires (list-calls t) (check-list-at t) check-list.Post Inv μ-loop
-list-walked-kid-requires t c κs = search needs
+list-child-of-requires : (t : ℕ) → check-list-lts.Need-child-of-requires (list-calls t) (check-list-at t) check-list.Post Inv μ-loop
+list-child-of-requires t c κs = search needs
 
-list-enum-known-kid : (t : ℕ) → check-list-lts.Need-enum-known-kid (list-calls t) (check-list-at t) check-list.Post Inv μ-loop
-list-enum-known-kid t c = search needs
+list-enum-known-child : (t : ℕ) → check-list-lts.Need-enum-known-child (list-calls t) (check-list-at t) check-list.Post Inv μ-loop
+list-enum-known-child t c = search needs
 
 list-enum-told : (t : ℕ) → check-list-lts.Need-enum-told (list-calls t) (check-list-at t) check-list.Post Inv μ-loop
 list-enum-told t c = search needs
@@ -117,16 +120,16 @@ list-returns : (t : ℕ) → check-list-lts.Need-returns (list-calls t) (check-l
 list-returns t c =
     let a = c .before .before .before .before .before .before .before .before .before .args in
     let p = c .before .before .before .before .before .before .before .before .before .pre .1 in
-    absurd (entry-there (c .before .before .walked-kid .result) (a .m .now) (a .slot) _ _ (c .before .before .walked-kid .ensures) (c .enum-told .given .1) (inside (a .m .now) (a .slot) (p .0)) (omega arith))
+    let w = c .before .before .before .before .loop in
+    let h = inside (a .m .now) (a .slot) (p .0) in
+    let l : w .i < 16 = omega (arith, c .before .before .before .loop-test .taken, p .1) in
+    absurd (child-there (a .m .now) (a .slot) (w .i) h l (c .before .before .child-of .result) (c .before .before .child-of .ensures) _ (c .enum-told .given .1))
 
-list-cast-check-node : (t : ℕ) → check-list-lts.Need-cast-check-node (list-calls t) (check-list-at t) check-list.Post Inv μ-loop
-list-cast-check-node t c = search needs
+list-info-of-requires : (t : ℕ) → check-list-lts.Need-info-of-requires (list-calls t) (check-list-at t) check-list.Post Inv μ-loop
+list-info-of-requires t c κs = search needs
 
-list-check-node-requires : (t : ℕ) → check-list-lts.Need-check-node-requires (list-calls t) (check-list-at t) check-list.Post Inv μ-loop
-list-check-node-requires t c κs = (omega arith, tt)
-
-list-enum-known-got : (t : ℕ) → check-list-lts.Need-enum-known-got (list-calls t) (check-list-at t) check-list.Post Inv μ-loop
-list-enum-known-got t c = search needs
+list-enum-known-info : (t : ℕ) → check-list-lts.Need-enum-known-info (list-calls t) (check-list-at t) check-list.Post Inv μ-loop
+list-enum-known-info t c = search needs
 
 list-enum-told-2 : (t : ℕ) → check-list-lts.Need-enum-told-2 (list-calls t) (check-list-at t) check-list.Post Inv μ-loop
 list-enum-told-2 t c = search needs
@@ -136,14 +139,21 @@ list-same-length-2 t c = search needs
 
 list-returns-2 : (t : ℕ) → check-list-lts.Need-returns-2 (list-calls t) (check-list-at t) check-list.Post Inv μ-loop
 list-returns-2 t c =
-    let a = c .before .before .before .before .before .before .before .before .before .before .before .before .before .before .before .before .before .args in
-    let w = c .before .before .before .before .before .before .before .before .before .before .before .before .loop in
-    let o = entry-opened (c .before .before .before .before .before .before .before .before .before .before .walked-kid .result) (a .m .now) (a .slot) (w .i) _ (c .before .before .before .before .before .before .before .before .before .before .walked-kid .ensures) (c .before .before .before .before .before .before .before .before .kid .given .1) in
-    let d = child-met (a .m .now) (w .seen) _ (c .before .before .before .before .before .before .before .before .before .before .before .before .before .before .least-of .result) (a .level) _ (c .before .before .before .before .check-node .result) _ (c .before .before .before .before .before .before .before .before .before .before .before .before .before .before .least-of .ensures) (c .enum-told2 .given .1) (c .before .before .before .before .check-node .ensures) in
-    λ e s f. turn-bad (a .m .now) _ (a .level) (a .slot) (w .i) (o .1) _ (o .2) (w .seen) _ _ _ (w .inv .3) (a .n) (c .before .before .before .before .before .before .before .before .before .before .before .loop-test .taken) (c .before .before .before .before .before .before .before .before .before .before .before .before .before .before .before .before .before .pre .1 .1) e s f d
+    let a = c .before .before .before .before .before .before .before .before .before .before .before .before .before .args in
+    let p = c .before .before .before .before .before .before .before .before .before .before .before .before .before .pre .1 in
+    let w = c .before .before .before .before .before .before .before .before .loop in
+    let h = inside (a .m .now) (a .slot) (p .0) in
+    let l : w .i < 16 = omega (arith, c .before .before .before .before .before .before .before .loop-test .taken, p .1) in
+    absurd (info-there (a .m .now) (a .slot) (w .i) h l (c .before .before .info-of .result) (c .before .before .info-of .ensures) _ (c .enum-told2 .given .1))
 
-list-follows-requires : (t : ℕ) → check-list-lts.Need-follows-requires (list-calls t) (check-list-at t) check-list.Post Inv μ-loop
-list-follows-requires t c κs = search needs
+list-check-node-requires : (t : ℕ) → check-list-lts.Need-check-node-requires (list-calls t) (check-list-at t) check-list.Post Inv μ-loop
+list-check-node-requires t c κs = (omega arith, tt)
+
+list-enum-known-got : (t : ℕ) → check-list-lts.Need-enum-known-got (list-calls t) (check-list-at t) check-list.Post Inv μ-loop
+list-enum-known-got t c = search needs
+
+list-enum-told-3 : (t : ℕ) → check-list-lts.Need-enum-told-3 (list-calls t) (check-list-at t) check-list.Post Inv μ-loop
+list-enum-told-3 t c = search needs
 
 list-same-length-3 : (t : ℕ) → check-list-lts.Need-same-length-3 (list-calls t) (check-list-at t) check-list.Post Inv μ-loop
 list-same-length-3 t c = search needs
@@ -151,42 +161,65 @@ list-same-length-3 t c = search needs
 list-returns-3 : (t : ℕ) → check-list-lts.Need-returns-3 (list-calls t) (check-list-at t) check-list.Post Inv μ-loop
 list-returns-3 t c =
     let a = c .before .before .before .before .before .before .before .before .before .before .before .before .before .before .before .before .before .before .before .before .args in
+    let p = c .before .before .before .before .before .before .before .before .before .before .before .before .before .before .before .before .before .before .before .before .pre .1 in
     let w = c .before .before .before .before .before .before .before .before .before .before .before .before .before .before .before .loop in
-    let o = entry-opened (c .before .before .before .before .before .before .before .before .before .before .before .before .before .walked-kid .result) (a .m .now) (a .slot) (w .i) _ (c .before .before .before .before .before .before .before .before .before .before .before .before .before .walked-kid .ensures) (c .before .before .before .before .before .before .before .before .before .before .before .kid .given .1) in
-    let d = child-met (a .m .now) (w .seen) _ (c .before .before .before .before .before .before .before .before .before .before .before .before .before .before .before .before .before .least-of .result) (a .level) _ (c .before .before .before .before .before .before .before .check-node .result) _ (c .before .before .before .before .before .before .before .before .before .before .before .before .before .before .before .before .before .least-of .ensures) (c .before .before .before .got .given .1) (c .before .before .before .before .before .before .before .check-node .ensures) in
-    λ e s f. turn-off (a .m .now) _ (a .level) (a .slot) (w .i) (o .1) _ (o .2) (w .seen) _ _ _ (w .inv .3) (a .n) (c .before .before .before .before .before .before .before .before .before .before .before .before .before .before .loop-test .taken) (c .before .before .before .before .before .before .before .before .before .before .before .before .before .before .before .before .before .before .before .before .pre .1 .1) e s f _ _ _ _ d (sym (c .before .follows .ensures) ∙ not-true _ (c .if1 .taken))
+    let h = inside (a .m .now) (a .slot) (p .0) in
+    let l : w .i < 16 = omega (arith, c .before .before .before .before .before .before .before .before .before .before .before .before .before .before .loop-test .taken, p .1) in
+    let o = parts-opened _ _ _ (child-opened (a .m .now) (a .slot) (w .i) h l (c .before .before .before .before .before .before .before .before .before .before .before .before .before .child-of .result) (c .before .before .before .before .before .before .before .before .before .before .before .before .before .child-of .ensures) _ (c .before .before .before .before .before .before .before .before .before .before .before .child .given .1)) (info-opened (a .m .now) (a .slot) (w .i) h l (c .before .before .before .before .before .before .before .before .before .info-of .result) (c .before .before .before .before .before .before .before .before .before .info-of .ensures) _ (c .before .before .before .before .before .before .before .info .given .1)) in
+    let d = child-met (a .m .now) (w .seen) _ (c .before .before .before .before .before .before .before .before .before .before .before .before .before .before .before .before .before .least-of .result) (a .level) _ (c .before .before .before .before .check-node .result) _ (c .before .before .before .before .before .before .before .before .before .before .before .before .before .before .before .before .before .least-of .ensures) (c .enum-told3 .given .1) (c .before .before .before .before .check-node .ensures) in
+    λ e s f. turn-bad (a .m .now) _ (a .level) (a .slot) (w .i) l _ o (w .seen) _ _ _ (w .inv .3) (a .n) (c .before .before .before .before .before .before .before .before .before .before .before .before .before .before .loop-test .taken) (p .1) e s f d
 
-list-plus-requires : (t : ℕ) → check-list-lts.Need-plus-requires (list-calls t) (check-list-at t) check-list.Post Inv μ-loop
-list-plus-requires t c κs =
-    let w = c .before .before .before .before .before .before .before .before .before .before .before .before .before .before .before .loop in
-    within-more (w .sum) (w .i) 16 (omega (arith, c .before .before .before .before .before .before .before .before .before .before .before .before .before .before .loop-test .taken, c .before .before .before .before .before .before .before .before .before .before .before .before .before .before .before .before .before .before .before .before .pre .1 .1)) (w .inv .2)
-
-list-begun-requires : (t : ℕ) → check-list-lts.Need-begun-requires (list-calls t) (check-list-at t) check-list.Post Inv μ-loop
-list-begun-requires t c κs = search needs
-
-list-add-i : (t : ℕ) → check-list-lts.Need-add-i (list-calls t) (check-list-at t) check-list.Post Inv μ-loop
-list-add-i t c = omega (arith, c .before .before .before .before .before .before .before .before .before .before .before .before .before .before .before .before .loop-test .taken, c .before .before .before .before .before .before .before .before .before .before .before .before .before .before .before .before .before .before .before .before .before .before .pre .1 .1)
-
-list-loop-less : (t : ℕ) → check-list-lts.Need-loop-less (list-calls t) (check-list-at t) check-list.Post Inv μ-loop
-list-loop-less t c = search needs
-
-list-loop-again : (t : ℕ) → check-list-lts.Need-loop-again (list-calls t) (check-list-at t) check-list.Post Inv μ-loop
-list-loop-again t c =
-    let a = c .before .before .before .before .before .before .before .before .before .before .before .before .before .before .before .before .before .before .before .before .before .before .args in
-    let w = c .before .before .before .before .before .before .before .before .before .before .before .before .before .before .before .before .before .loop in
-    let o = entry-opened (c .before .before .before .before .before .before .before .before .before .before .before .before .before .before .before .walked-kid .result) (a .m .now) (a .slot) (w .i) _ (c .before .before .before .before .before .before .before .before .before .before .before .before .before .before .before .walked-kid .ensures) (c .before .before .before .before .before .before .before .before .before .before .before .before .before .kid .given .1) in
-    let d = child-met (a .m .now) (w .seen) _ (c .before .before .before .before .before .before .before .before .before .before .before .before .before .before .before .before .before .before .before .least-of .result) (a .level) _ (c .before .before .before .before .before .before .before .before .before .check-node .result) _ (c .before .before .before .before .before .before .before .before .before .before .before .before .before .before .before .before .before .before .before .least-of .ensures) (c .before .before .before .before .before .got .given .1) (c .before .before .before .before .before .before .before .before .before .check-node .ensures) in (
-      omega (arith, c .before .before .before .before .before .before .before .before .before .before .before .before .before .before .before .before .loop-test .taken),
-      c .before .before .before .before .before .before .before .before .before .check-node .kept .1 .0 ∙ w .inv .1,
-      within-plus (w .sum) _ (c .before .plus .result) (w .i) (w .inv .2) (c .before .plus .ensures),
-      turn-more (a .m .now) _ (a .level) (a .slot) (w .i) (o .1) _ (o .2) (w .seen) _ _ _ (w .inv .3) _ _ _ _ _ d (sym (c .before .before .before .follows .ensures) ∙ not-false _ (c .before .before .if1 .left)) (c .before .plus .ensures) _ (c .begun .ensures),
-    )
+list-follows-requires : (t : ℕ) → check-list-lts.Need-follows-requires (list-calls t) (check-list-at t) check-list.Post Inv μ-loop
+list-follows-requires t c κs = search needs
 
 list-same-length-4 : (t : ℕ) → check-list-lts.Need-same-length-4 (list-calls t) (check-list-at t) check-list.Post Inv μ-loop
 list-same-length-4 t c = search needs
 
 list-returns-4 : (t : ℕ) → check-list-lts.Need-returns-4 (list-calls t) (check-list-at t) check-list.Post Inv μ-loop
 list-returns-4 t c =
+    let a = c .before .before .before .before .before .before .before .before .before .before .before .before .before .before .before .before .before .before .before .before .before .before .before .args in
+    let p = c .before .before .before .before .before .before .before .before .before .before .before .before .before .before .before .before .before .before .before .before .before .before .before .pre .1 in
+    let w = c .before .before .before .before .before .before .before .before .before .before .before .before .before .before .before .before .before .before .loop in
+    let h = inside (a .m .now) (a .slot) (p .0) in
+    let l : w .i < 16 = omega (arith, c .before .before .before .before .before .before .before .before .before .before .before .before .before .before .before .before .before .loop-test .taken, p .1) in
+    let o = parts-opened _ _ _ (child-opened (a .m .now) (a .slot) (w .i) h l (c .before .before .before .before .before .before .before .before .before .before .before .before .before .before .before .before .child-of .result) (c .before .before .before .before .before .before .before .before .before .before .before .before .before .before .before .before .child-of .ensures) _ (c .before .before .before .before .before .before .before .before .before .before .before .before .before .before .child .given .1)) (info-opened (a .m .now) (a .slot) (w .i) h l (c .before .before .before .before .before .before .before .before .before .before .before .before .info-of .result) (c .before .before .before .before .before .before .before .before .before .before .before .before .info-of .ensures) _ (c .before .before .before .before .before .before .before .before .before .before .info .given .1)) in
+    let d = child-met (a .m .now) (w .seen) _ (c .before .before .before .before .before .before .before .before .before .before .before .before .before .before .before .before .before .before .before .before .least-of .result) (a .level) _ (c .before .before .before .before .before .before .before .check-node .result) _ (c .before .before .before .before .before .before .before .before .before .before .before .before .before .before .before .before .before .before .before .before .least-of .ensures) (c .before .before .before .got .given .1) (c .before .before .before .before .before .before .before .check-node .ensures) in
+    λ e s f. turn-off (a .m .now) _ (a .level) (a .slot) (w .i) l _ o (w .seen) _ _ _ (w .inv .3) (a .n) (c .before .before .before .before .before .before .before .before .before .before .before .before .before .before .before .before .before .loop-test .taken) (p .1) e s f _ _ _ _ d (sym (c .before .follows .ensures) ∙ not-true _ (c .if1 .taken))
+
+list-plus-requires : (t : ℕ) → check-list-lts.Need-plus-requires (list-calls t) (check-list-at t) check-list.Post Inv μ-loop
+list-plus-requires t c κs =
+    let w = c .before .before .before .before .before .before .before .before .before .before .before .before .before .before .before .before .before .before .loop in
+    within-more (w .sum) (w .i) 16 (omega (arith, c .before .before .before .before .before .before .before .before .before .before .before .before .before .before .before .before .before .loop-test .taken, c .before .before .before .before .before .before .before .before .before .before .before .before .before .before .before .before .before .before .before .before .before .before .before .pre .1 .1)) (w .inv .2)
+
+list-begun-requires : (t : ℕ) → check-list-lts.Need-begun-requires (list-calls t) (check-list-at t) check-list.Post Inv μ-loop
+list-begun-requires t c κs = search needs
+
+list-add-i : (t : ℕ) → check-list-lts.Need-add-i (list-calls t) (check-list-at t) check-list.Post Inv μ-loop
+list-add-i t c = omega (arith, c .before .before .before .before .before .before .before .before .before .before .before .before .before .before .before .before .before .before .before .loop-test .taken, c .before .before .before .before .before .before .before .before .before .before .before .before .before .before .before .before .before .before .before .before .before .before .before .before .before .pre .1 .1)
+
+list-loop-less : (t : ℕ) → check-list-lts.Need-loop-less (list-calls t) (check-list-at t) check-list.Post Inv μ-loop
+list-loop-less t c = omega (arith, c .before .before .before .before .before .before .before .before .before .before .before .before .before .before .before .before .before .before .before .loop-test .taken)
+
+list-loop-again : (t : ℕ) → check-list-lts.Need-loop-again (list-calls t) (check-list-at t) check-list.Post Inv μ-loop
+list-loop-again t c =
+    let a = c .before .before .before .before .before .before .before .before .before .before .before .before .before .before .before .before .before .before .before .before .before .before .before .before .before .args in
+    let p = c .before .before .before .before .before .before .before .before .before .before .before .before .before .before .before .before .before .before .before .before .before .before .before .before .before .pre .1 in
+    let w = c .before .before .before .before .before .before .before .before .before .before .before .before .before .before .before .before .before .before .before .before .loop in
+    let h = inside (a .m .now) (a .slot) (p .0) in
+    let l : w .i < 16 = omega (arith, c .before .before .before .before .before .before .before .before .before .before .before .before .before .before .before .before .before .before .before .loop-test .taken, p .1) in
+    let o = parts-opened _ _ _ (child-opened (a .m .now) (a .slot) (w .i) h l (c .before .before .before .before .before .before .before .before .before .before .before .before .before .before .before .before .before .before .child-of .result) (c .before .before .before .before .before .before .before .before .before .before .before .before .before .before .before .before .before .before .child-of .ensures) _ (c .before .before .before .before .before .before .before .before .before .before .before .before .before .before .before .before .child .given .1)) (info-opened (a .m .now) (a .slot) (w .i) h l (c .before .before .before .before .before .before .before .before .before .before .before .before .before .before .info-of .result) (c .before .before .before .before .before .before .before .before .before .before .before .before .before .before .info-of .ensures) _ (c .before .before .before .before .before .before .before .before .before .before .before .before .info .given .1)) in
+    let d = child-met (a .m .now) (w .seen) _ (c .before .before .before .before .before .before .before .before .before .before .before .before .before .before .before .before .before .before .before .before .before .before .least-of .result) (a .level) _ (c .before .before .before .before .before .before .before .before .before .check-node .result) _ (c .before .before .before .before .before .before .before .before .before .before .before .before .before .before .before .before .before .before .before .before .before .before .least-of .ensures) (c .before .before .before .before .before .got .given .1) (c .before .before .before .before .before .before .before .before .before .check-node .ensures) in (
+      omega (arith, c .before .before .before .before .before .before .before .before .before .before .before .before .before .before .before .before .before .before .before .loop-test .taken),
+      c .before .before .before .before .before .before .before .before .before .check-node .kept .1 .0 ∙ w .inv .1,
+      within-plus (w .sum) _ (c .before .plus .result) (w .i) (w .inv .2) (c .before .plus .ensures),
+      turn-more (a .m .now) _ (a .level) (a .slot) (w .i) l _ o (w .seen) _ _ _ (w .inv .3) _ _ _ _ _ d (sym (c .before .before .before .follows .ensures) ∙ not-false _ (c .before .before .if1 .left)) (c .before .plus .ensures) _ (c .begun .ensures),
+    )
+
+list-same-length-5 : (t : ℕ) → check-list-lts.Need-same-length-5 (list-calls t) (check-list-at t) check-list.Post Inv μ-loop
+list-same-length-5 t c = search needs
+
+list-returns-5 : (t : ℕ) → check-list-lts.Need-returns-5 (list-calls t) (check-list-at t) check-list.Post Inv μ-loop
+list-returns-5 t c =
     let w = c .before .loop in
     let a = c .before .before .before .before .before .before .args in
     let z : w .i ≡ a .n = omega arith in
@@ -279,27 +312,31 @@ pub +check-list+check-node-spec : {M : Type 1} → statement M
     (list-least-of-requires t)
     (list-new-requires t)
     (list-loop-holds t)
-    (list-walked-kid-requires t)
-    (list-enum-known-kid t)
+    (list-child-of-requires t)
+    (list-enum-known-child t)
     (list-enum-told t)
     (list-same-length t)
     (list-returns t)
-    (list-cast-check-node t)
-    (list-check-node-requires t)
-    (list-enum-known-got t)
+    (list-info-of-requires t)
+    (list-enum-known-info t)
     (list-enum-told-2 t)
     (list-same-length-2 t)
     (list-returns-2 t)
-    (list-follows-requires t)
+    (list-check-node-requires t)
+    (list-enum-known-got t)
+    (list-enum-told-3 t)
     (list-same-length-3 t)
     (list-returns-3 t)
+    (list-follows-requires t)
+    (list-same-length-4 t)
+    (list-returns-4 t)
     (list-plus-requires t)
     (list-begun-requires t)
     (list-add-i t)
     (list-loop-less t)
     (list-loop-again t)
-    (list-same-length-4 t)
-    (list-returns-4 t))
+    (list-same-length-5 t)
+    (list-returns-5 t))
     λ t. check-node-lts.spec
     (node-calls t)
     (check-node-at t)

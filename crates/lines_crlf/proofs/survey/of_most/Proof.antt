@@ -1,11 +1,12 @@
 -- `survey::of_most` meets its contract: parts of 32 bytes, and the 32 at the end, of which those are counted that were not.
-use mathlib.Core.Path.{_≡_, ap}
+use mathlib.Core.Path.{_≡_, ap, subst}
 use Prim.Native.Nat.{ℕ, _+_, _-_, _%_}
 use native.Mathlib.Omega.{arith}
 use borrow.Author.Needs.{needs}
 use lib.ListN.{drop}
 use Rattle.plain.specs.Count.{breaks}
-use Rattle.plain.proofs.Logic.{cut}
+use Rattle.lines_crlf.specs.Surveyed.{Tops}
+use Rattle.lines_crlf.proofs.Tops.{tops-join}
 use Rattle.lines_crlf.proofs.survey.of_most.Statement.{statement}
 use Rattle.lines_crlf.proofs.survey.of_most.Tie as tie
 
@@ -49,7 +50,7 @@ returns-2 c =
     let e : last - 32 + (32 - last % 32) ≡ last - last % 32 = omega arith in
     let f : last - 32 + 32 ≡ last = omega arith in
     let at : ℕ → ℕ = λ k. breaks (drop k text) in (
-      λ k h. cut k (last - last % 32) (λ l. omega (arith, parts .ensures .0 k l)) (λ l. omega (arith, rest .ensures .0 k (omega arith) (omega arith))),
+      tops-join text 0 (last - last % 32) (last - 32) last (parts .result .high) (rest .result .high) (c .before .before .higher .result) (parts .ensures .0) (subst (λ (j : ℕ). Tops text (last - 32) j (rest .result .high)) f (rest .ensures .0)) (omega arith) (c .before .before .higher .ensures),
       omega (arith, parts .ensures .1, rest .ensures .1, ap at e, ap at f),
       omega (arith, parts .ensures .2, rest .ensures .2),
     )

@@ -1,22 +1,23 @@
--- `survey::of_parts` meets its contract. The loop's invariant: no byte passed is above the highest, and the breaks counted, with those still to
+-- `survey::of_parts` meets its contract. The loop's invariant: the highest of the bytes passed, and the breaks counted, with those still to
 -- come, are all breaks.
-use mathlib.Core.Path.{_≡_, ap}
-use Prim.Native.Nat.{ℕ, _+_, _-_, _≤_, _<_}
+use mathlib.Core.Path.{_≡_, ap, subst}
+use Prim.Native.Nat.{ℕ, _+_, _-_, _≤_}
 use native.Mathlib.Omega.{arith}
-use lib.ListN.{getD, drop}
+use lib.ListN.{drop}
 use Rattle.plain.specs.Count.{breaks}
-use Rattle.plain.proofs.Logic.{cut}
+use Rattle.lines_crlf.specs.Surveyed.{Tops}
+use Rattle.lines_crlf.proofs.Tops.{tops-none, tops-join}
 use Rattle.lines_crlf.proofs.survey.of_parts.Statement.{statement}
 use Rattle.lines_crlf.proofs.survey.of_parts.Tie as tie
 
 abbrev Inv-loop : tie.InvT-loop
-Inv-loop text end high₀ n₀ i₀ high n i = (i ≤ end) × (n ≤ i) × (n + breaks (drop i text) ≡ breaks text) × ((k : ℕ) → k < i → getD text k 0 ≤ high)
+Inv-loop text end high₀ n₀ i₀ high n i = (i ≤ end) × (n ≤ i) × (n + breaks (drop i text) ≡ breaks text) × Tops text 0 i high
 
 abbrev μ-loop : tie.MeasureT-loop
 μ-loop text end high₀ n₀ i₀ high n i = end - i
 
 loop-holds : tie.Need-loop-holds Inv-loop μ-loop
-loop-holds c = (omega arith, omega arith, omega arith, λ k l. absurd (omega arith))
+loop-holds c = (omega arith, omega arith, omega arith, tops-none _ _)
 
 stop-requires : tie.Need-stop-requires Inv-loop μ-loop
 stop-requires c κs = omega arith
@@ -43,7 +44,7 @@ loop-again c =
       omega arith,
       omega arith,
       omega arith,
-      λ k l. cut k (at-loop .loop .i) (λ h. omega (arith, at-loop .loop .inv .3 k h)) (λ h. omega (arith, part .ensures .0 k h l)),
+      tops-join (at-loop .before .before .args .text .now) 0 (at-loop .loop .i) (at-loop .loop .i) (c .before .before .before .stop .result) (at-loop .loop .high) (part .result .high) (c .before .higher .result) (at-loop .loop .inv .3) (part .ensures .0) (omega arith) (c .before .higher .ensures),
     )
 
 returns : tie.Need-returns Inv-loop μ-loop
@@ -51,7 +52,7 @@ returns c =
     let start = c .before .before .before in
     let text = start .args .text .now in
     let e : c .before .loop .i ≡ start .args .end = omega arith in
-    (λ k l. c .before .loop .inv .3 k (omega arith), omega (arith, ap (λ (k : ℕ). breaks (drop k text)) e), omega arith)
+    (subst (λ (j : ℕ). Tops text 0 j (c .before .loop .high)) e (c .before .loop .inv .3), omega (arith, ap (λ (k : ℕ). breaks (drop k text)) e), omega arith)
 
 pub of-parts-spec : {M : Type 1} → statement M
 of-parts-spec =

@@ -1,19 +1,20 @@
--- `survey::of_rest` meets its contract. The loop's invariant: no byte passed is above the highest; and from the first byte that counts on, what
+-- `survey::of_rest` meets its contract. The loop's invariant: the highest of the bytes passed; and from the first byte that counts on, what
 -- has been counted, with what is still to come, is the count from there on.
-use mathlib.Core.Path.{_≡_, ap}
-use Prim.Native.Nat.{ℕ, _+_, _-_, _≤_, _<_}
+use mathlib.Core.Path.{_≡_, ap, subst}
+use Prim.Native.Nat.{ℕ, _+_, _-_, _≤_}
 use native.Mathlib.Omega.{arith}
-use borrow.Author.Count.{below-more}
 use borrow.Author.Needs.{needs}
-use lib.ListN.{getD, drop}
+use lib.ListN.{drop}
 use Rattle.plain.specs.Count.{breaks}
 use Rattle.plain.proofs.Count.{break-turn}
 use Rattle.plain.proofs.Logic.{cut}
+use Rattle.lines_crlf.specs.Surveyed.{Tops}
+use Rattle.lines_crlf.proofs.Tops.{tops-none, tops-more}
 use Rattle.lines_crlf.proofs.survey.of_rest.Statement.{statement}
 use Rattle.lines_crlf.proofs.survey.of_rest.Tie as tie
 
 abbrev Inv-loop : tie.InvT-loop
-Inv-loop text base s end high₀ n₀ k₀ i₀ high n k i = (i ≡ base + k) × (k ≤ 32) × (n ≤ k - s) × (s ≤ k → n + breaks (drop i text) ≡ breaks (drop (base + s) text)) × ((j : ℕ) → base ≤ j → j < i → getD text j 0 ≤ high)
+Inv-loop text base s end high₀ n₀ k₀ i₀ high n k i = (i ≡ base + k) × (k ≤ 32) × (n ≤ k - s) × (s ≤ k → n + breaks (drop i text) ≡ breaks (drop (base + s) text)) × Tops text base i high
 
 abbrev μ-loop : tie.MeasureT-loop
 μ-loop text base s end high₀ n₀ k₀ i₀ high n k i = end - i
@@ -24,7 +25,7 @@ add-end c = search needs
 loop-holds : tie.Need-loop-holds Inv-loop μ-loop
 loop-holds c =
     let a = c .before .args in
-    (omega arith, omega arith, omega arith, λ h. let e : a .base ≡ a .base + a .s = omega arith in omega (arith, ap (λ (j : ℕ). breaks (drop j (a .text .now))) e), λ j g l. absurd (omega arith))
+    (omega arith, omega arith, omega arith, λ h. let e : a .base ≡ a .base + a .s = omega arith in omega (arith, ap (λ (j : ℕ). breaks (drop j (a .text .now))) e), tops-none _ _)
 
 shared-slice-read-higher : tie.Need-shared-slice-read-higher Inv-loop μ-loop
 shared-slice-read-higher c = omega arith
@@ -58,16 +59,14 @@ loop-again c =
     let base = start .args .base in
     let s = start .args .s in
     let i = at-loop .loop .i in
-    let k = at-loop .loop .k in
-    let high = c .before .before .higher .result in
-    let all = at-loop .loop .inv .4 in (
+    let k = at-loop .loop .k in (
       omega arith,
       omega arith,
       cut k s (λ h. omega (arith, c .from-on .ensures .0 h)) (λ h. omega (arith, c .from-on .ensures .1 h, c .before .ended .ensures .1)),
       λ g. cut k s
           (λ h. let e : i + 1 ≡ base + s = omega arith in omega (arith, c .from-on .ensures .0 h, ap (λ (j : ℕ). breaks (drop j text)) e))
           (λ h. omega (arith, c .from-on .ensures .1 h, c .before .ended .ensures .0, at-loop .loop .inv .3 h, break-turn text i (omega arith))),
-      λ j g l. below-more (λ j. base ≤ j → getD text j 0 ≤ high) i (λ j l g. omega (arith, all j g l)) (λ g. omega arith) j l g,
+      tops-more text base i (at-loop .loop .high) (c .before .before .higher .result) (omega arith) (at-loop .loop .inv .4) (c .before .before .higher .ensures),
     )
 
 returns : tie.Need-returns Inv-loop μ-loop
@@ -76,7 +75,7 @@ returns c =
     let text = start .args .text .now in
     let l = c .before .loop in
     let i : l .i ≡ start .args .base + 32 = omega arith in
-    (λ j g h. l .inv .4 j g (omega arith), omega (arith, l .inv .3 (omega arith), ap (λ (j : ℕ). breaks (drop j text)) i), omega arith)
+    (subst (λ (j : ℕ). Tops text (start .args .base) j (l .high)) i (l .inv .4), omega (arith, l .inv .3 (omega arith), ap (λ (j : ℕ). breaks (drop j text)) i), omega arith)
 
 pub of-rest-spec : {M : Type 1} → statement M
 of-rest-spec =

@@ -7,12 +7,12 @@ use borrow.Author.Needs.{needs}
 use lib.ListN.{length, getD, drop-of-length-le}
 use Rattle.plain.specs.Count.{bit, ends}
 use Rattle.plain.proofs.Count.{break-turn, break-end}
-use Rattle.plain.proofs.Logic.{cut}
+use Rattle.lines_crlf.proofs.Tops.{tops-none, tops-more, tops-all}
 use Rattle.lines_crlf.proofs.survey.of_text.Statement.{statement}
 use Rattle.lines_crlf.proofs.survey.of_text.Tie as tie
 
 returns : tie.Need-returns
-returns c = (λ k h. absurd (omega arith), sym (break-end (c .before .before .args .text .now) 0 (omega arith)))
+returns c = let text = c .before .before .args .text .now in (tops-all text 0 0 (omega arith) (tops-none text 0), sym (break-end text 0 (omega arith)))
 
 sub-last : tie.Need-sub-last
 sub-last c = search needs
@@ -42,7 +42,7 @@ returns-2 c =
     let most = c .before .before .before .before .before .of-most in
     let none = drop-of-length-le text {i = last + 1} (omega arith) in
     let alone = ap (λ (r : List ℕ). bit (ends (getD text last 0) r)) none in (
-      λ k h. cut k last (λ l. omega (arith, most .ensures .0 k l)) (λ l. let same : k ≡ last = omega arith in omega (arith, ap (λ (j : ℕ). getD text j 0) same)),
+      tops-all text (last + 1) (c .before .before .before .higher .result) (omega arith) (tops-more text 0 last (most .result .high) (c .before .before .before .higher .result) (omega arith) (most .ensures .0) (c .before .before .before .higher .ensures)),
       omega (arith, alone, break-turn text last (omega arith), break-end text (last + 1) (omega arith)),
     )
 

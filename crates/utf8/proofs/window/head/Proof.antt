@@ -4,7 +4,7 @@ use mathlib.Core.Bool.{_||_}
 use lib.ListN.{getD, drop}
 use borrow.Author.Needs.{needs}
 use Rattle.utf8.specs.Window.{scan}
-use Rattle.utf8.proofs.Windows.{scan-head}
+use Rattle.utf8.proofs.Loops.{scan-head}
 use Rattle.utf8.proofs.window.head.Statement.{statement}
 use Rattle.utf8.proofs.window.head.Tie as tie
 
@@ -28,8 +28,10 @@ bad-requires-3 c κs = search needs
 
 returns : tie.Need-returns
 returns c =
-    let s = c .before .before .before .before .before .before .before .args .text .now in
-    (λ i. ((c .before .before .bad .ensures i || c .before .bad2 .ensures i) || c .bad3 .ensures i) || scan (getD s 0 0) (getD s 1 0) (getD s 2 0) (drop 3 s)) ∙ scan-head s (search needs)
+    let a = c .before .before .before .before .before .before .before .args in
+    let far = a .far in
+    let s = a .text .now in
+    (λ i. ((c .before .before .bad .ensures i || c .before .bad2 .ensures i) || c .bad3 .ensures i) || scan far (getD s 0 0) (getD s 1 0) (getD s 2 0) (drop 3 s)) ∙ scan-head far s (search needs)
 
 pub head-spec : {M : Type 1} → statement M
 head-spec =

@@ -3,18 +3,18 @@ use mathlib.Core.Path.{_≡_, subst}
 use Prim.Native.Nat.{ℕ, _-_, _≤_}
 use native.Mathlib.Omega.{arith}
 use Rattle.utf8.specs.Window.{Parted}
-use Rattle.utf8.proofs.Windows.{part-none, part-more}
+use Rattle.utf8.proofs.Loops.{part-none, part-more}
 use Rattle.utf8.proofs.window.part.Statement.{statement}
 use Rattle.utf8.proofs.window.part.Tie as tie
 
 abbrev Inv-loop : tie.InvT-loop
-Inv-loop text a e w₀ i₀ w i = (a ≤ i) × (i ≤ e) × Parted text a i w
+Inv-loop far text a e w₀ i₀ w i = (a ≤ i) × (i ≤ e) × Parted far text a i w
 
 abbrev μ-loop : tie.MeasureT-loop
-μ-loop text a e w₀ i₀ w i = e - i
+μ-loop far text a e w₀ i₀ w i = e - i
 
 loop-holds : tie.Need-loop-holds Inv-loop μ-loop
-loop-holds c = (omega arith, omega arith, part-none _ _)
+loop-holds c = (omega arith, omega arith, part-none _ _ _)
 
 window-requires : tie.Need-window-requires Inv-loop μ-loop
 window-requires c κs = (omega arith, omega arith)
@@ -30,13 +30,13 @@ loop-again c =
     let at-loop = c .before .before in
     let a = at-loop .before .before .args in
     let i = at-loop .loop .i in
-    (omega arith, omega arith, part-more (a .text .now) (a .a) i (at-loop .loop .w) (c .window .result) (omega arith) (omega arith) (omega arith) (at-loop .loop .inv .2) (c .window .ensures))
+    (omega arith, omega arith, part-more (a .far) (a .text .now) (a .a) i (at-loop .loop .w) (c .window .result) (omega arith) (omega arith) (omega arith) (at-loop .loop .inv .2) (c .window .ensures))
 
 returns : tie.Need-returns Inv-loop μ-loop
 returns c =
     let a = c .before .before .before .args in
     let same : c .before .loop .i ≡ a .e = omega arith in
-    subst (λ (k : ℕ). Parted (a .text .now) (a .a) k (c .before .loop .w)) same (c .before .loop .inv .2)
+    subst (λ (k : ℕ). Parted (a .far) (a .text .now) (a .a) k (c .before .loop .w)) same (c .before .loop .inv .2)
 
 pub part-spec : {M : Type 1} → statement M
 part-spec =

@@ -3,7 +3,7 @@ use Prim.Native.Nat.{_-_, _%_}
 use native.Mathlib.Omega.{arith}
 use lib.ListN.{length}
 use borrow.Author.Needs.{needs}
-use Rattle.utf8.proofs.Windows.{scan-whole}
+use Rattle.utf8.proofs.Loops.{scan-whole}
 use Rattle.utf8.proofs.window.wrong.Statement.{statement}
 use Rattle.utf8.proofs.window.wrong.Tie as tie
 
@@ -30,9 +30,10 @@ unfinished-requires c κs = search needs
 
 returns : tie.Need-returns
 returns c =
-    let s = c .before .before .before .before .before .args .text .now in
+    let a = c .before .before .before .before .before .args in
+    let s = a .text .now in
     let n = length s in
-    scan-whole s (n - (n - 3) % 32) (n - 32) (c .before .before .before .head .result) (c .before .before .part .result) (c .before .part2 .result) (c .unfinished .result) (omega arith) (omega arith) (omega arith) (c .before .before .before .head .ensures) (c .before .before .part .ensures) (c .before .part2 .ensures) (c .unfinished .ensures)
+    scan-whole (a .far) s (n - (n - 3) % 32) (n - 32) (c .before .before .before .head .result) (c .before .before .part .result) (c .before .part2 .result) (c .unfinished .result) (omega arith) (omega arith) (omega arith) (c .before .before .before .head .ensures) (c .before .before .part .ensures) (c .before .part2 .ensures) (c .unfinished .ensures)
 
 pub wrong-spec : {M : Type 1} → statement M
 wrong-spec =
