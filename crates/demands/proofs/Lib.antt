@@ -4,4 +4,5 @@ pub mod Demand2
 pub mod Demand3
 pub mod Bridge
 pub mod Handed
+pub mod Opening
 pub mod Unique
