@@ -1,4 +1,5 @@
--- What each public function promises is a step of a sequence: an edit, a mark set or dropped, and every call that reads.
+-- What each public function promises is a step of a sequence: an edit, a mark set or dropped, and what answers a number. Those that hand out text are in
+-- Handed.antt.
 use mathlib.Core.Path.{_≡_, refl, sym, ap, subst, _∙_}
 use mathlib.Core.Bool.{Bool, true, false}
 use mathlib.Core.List.{List, []}
@@ -7,9 +8,9 @@ use lib.IntN.{ℤ}
 use Rattle.plain.specs.Place.{Measure}
 use Rattle.plain.specs.Outcome.{Outcome, Outcome.value, Outcome.refused, mapped}
 use Rattle.plain.proofs.Outcome.{clash}
-use Rattle.plain_note.specs.Note.{Note, mostBy, converted, copied, readFrom, previewed, opened}
+use Rattle.plain_note.specs.Note.{Note, mostBy, converted, opened}
 use Rattle.plain_calls.specs.Marks.{standing, lineBeside}
-use Rattle.plain_calls.specs.Calls.{Call.insert, Call.remove, Call.setMark, Call.dropMark, Call.look, Look, Look.total, Look.slots, Look.edits, Look.convert, Look.copy, Look.read, Look.preview, Look.place, Look.line, Said, Said.done, Said.is, Said.by, Said.bytes, inserting, removing, setting, dropping, looking, said, called}
+use Rattle.plain_calls.specs.Calls.{Call.insert, Call.remove, Call.setMark, Call.dropMark, Call.look, Look, Look.total, Look.slots, Look.edits, Look.convert, Look.place, Look.line, Said, Said.done, Said.is, Said.by, inserting, removing, setting, dropping, looking, said, called}
 use Rattle.memory.specs.Formed.{wellFormed, noteOf, ofNote}
 use Rattle.memory.proofs.Formed.{note-called, note-refused}
 use Rattle.answer.specs.declared.Verdict.{Verdict}
@@ -110,7 +111,7 @@ module _ (m : List ℕ) where
           }
 
   -- an answer of one kind as one of all
-  of-read : {A : Type 0} (f : A → Said) (l : Look) (o : Note → Outcome A) → ((N : Note) → looking N l ≡ mapped f (o N)) → (a : Outcome A) → a ≡ ofNote m o → mapped f a ≡ ofNote m (λ N. looking N l)
+  pub of-read : {A : Type 0} (f : A → Said) (l : Look) (o : Note → Outcome A) → ((N : Note) → looking N l ≡ mapped f (o N)) → (a : Outcome A) → a ≡ ofNote m o → mapped f a ≡ ofNote m (λ N. looking N l)
   of-read f l o same a e = go (wellFormed m) refl
     where
       go : (t : Bool) → wellFormed m ≡ t → mapped f a ≡ ofNote m (λ N. looking N l)
@@ -132,18 +133,6 @@ module _ (m : List ℕ) where
   pub convert-steps : (from to : Measure) (i : ℕ) (a : Outcome ℕ) → a ≡ ofNote m (λ N. converted from to N i) → Step (look (convert from to i)) m (mapped is a) m
   unfolding looking
   convert-steps from to i a e = look-steps (convert from to i) (mapped is a) (of-read is (convert from to i) (λ N. converted from to N i) (λ N. refl) a e)
-
-  pub copy-steps : (s e out : ℕ) (a : Outcome (List ℕ)) → a ≡ ofNote m (λ N. copied N s e out) → Step (look (copy s e out)) m (mapped bytes a) m
-  unfolding looking
-  copy-steps s e out a f = look-steps (copy s e out) (mapped bytes a) (of-read bytes (copy s e out) (λ N. copied N s e out) (λ N. refl) a f)
-
-  pub read-steps : (p : ℕ) (a : Outcome (List ℕ)) → a ≡ ofNote m (λ N. readFrom N p) → Step (look (read p)) m (mapped bytes a) m
-  unfolding looking
-  read-steps p a e = look-steps (read p) (mapped bytes a) (of-read bytes (read p) (λ N. readFrom N p) (λ N. refl) a e)
-
-  pub preview-steps : (p : ℕ) (piece : List ℕ) (q : ℕ) (a : Outcome (List ℕ)) → a ≡ ofNote m (λ N. previewed N p piece q) → Step (look (preview p piece q)) m (mapped bytes a) m
-  unfolding looking
-  preview-steps p piece q a e = look-steps (preview p piece q) (mapped bytes a) (of-read bytes (preview p piece q) (λ N. previewed N p piece q) (λ N. refl) a e)
 
   pub place-steps : (k : ℕ) (a : Outcome ℕ) → a ≡ ofNote m (λ N. standing N k) → Step (look (place k)) m (mapped is a) m
   unfolding looking

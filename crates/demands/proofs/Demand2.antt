@@ -41,13 +41,14 @@ stepped c m a after ok s = go (called (noteOf m) c) refl
 
 -- ── any sequence ──
 
-pub record Followed (m : List ℕ) (hs : List (Call × Outcome Said)) (end : List ℕ) : Type 0 where
+-- the calls of a sequence that started on memory with the note N: the memory at its end, and the answers, are those of the plain note
+pub record Followed (N : Note) (hs : List (Call × Outcome Said)) (end : List ℕ) : Type 0 where
   pub formed : wellFormed end ≡ true
-  pub note : noteOf end ≡ afterAll (noteOf m) (callsOf hs)
-  pub answers : hs ≡ answersOn (noteOf m) (callsOf hs)
+  pub note : noteOf end ≡ afterAll N (callsOf hs)
+  pub answers : hs ≡ answersOn N (callsOf hs)
 
 -- DEMAND 2
-pub followed : (hs : List (Call × Outcome Said)) (m end : List ℕ) → wellFormed m ≡ true → Steps m hs end → Followed m hs end
+pub followed : (hs : List (Call × Outcome Said)) (m end : List ℕ) → wellFormed m ≡ true → Steps m hs end → Followed (noteOf m) hs end
 followed [] m end ok e = record { formed = ap wellFormed e ∙ ok; note = ap (λ (x : List ℕ). noteOf x) e; answers = refl }
 followed (h ∷ hs) m end ok s =
     let mid = s .0 in

@@ -1,4 +1,5 @@
 pub mod Rules
 pub mod Parts
+pub mod InTurn
 pub mod Joined
 pub mod Apart

@@ -1,4 +1,5 @@
--- What a reader hands out, on any memory: the run at its place, the place behind that run, and all its runs until an empty one.
+-- What a reader hands out, on any memory: the run at its place, the place behind that run, and all its runs until an empty one. And parts of any
+-- kind, asked for one behind another.
 use mathlib.Core.Path.{_≡_}
 use mathlib.Core.Bool.{cond}
 use mathlib.Core.List.{List, [], _∷_, _++_}
@@ -26,10 +27,14 @@ runAt m p = cond (ltb p (rootOf m .info .chars)) (fromChar (ownOf m) p) []
 abbrev pub behindOf : List ℕ → ℕ → ℕ
 behindOf m p = p + countIf isStart (runAt m p)
 
--- the runs from p on, none of them empty, and behind them an empty one
+-- the parts that a call f gives from the place p on, each asked for behind the one before: none of them empty, and behind them an empty one
+abbrev pub InTurn : (ℕ → List ℕ) → ℕ → List (List ℕ) → Type 0
+InTurn f p [] = [] ≡ f p
+InTurn f p (r ∷ rs) = (r ≡ f p) × (1 ≤ length r) × InTurn f (p + countIf isStart (f p)) rs
+
+-- the runs of a reader from p on
 abbrev pub Runs : List ℕ → ℕ → List (List ℕ) → Type 0
-Runs m p [] = runAt m p ≡ []
-Runs m p (r ∷ rs) = (runAt m p ≡ r) × ((1 ≤ length r) × Runs m (behindOf m p) rs)
+Runs m p rs = InTurn (runAt m) p rs
 
 abbrev pub joined : List (List ℕ) → List ℕ
 joined [] = []

@@ -1,27 +1,27 @@
 -- What does not vary with the tree's shape: a run is a front part of the note from its place on, and a preview of the joined text, in whole
 -- chars, and empty at the end alone; and a preview does not pass the insertion place.
-use mathlib.Core.Path.{_≡_, refl, sym, ap, subst, _∙_}
+use mathlib.Core.Path.{_≡_, sym, ap, subst, _∙_}
 use mathlib.Core.Bool.{true}
-use mathlib.Core.List.{List, [], _∷_, _++_}
+use mathlib.Core.List.{List, [], _++_}
 use Prim.Native.Nat.{ℕ, _+_, _-_, _≤_, _<_, min}
 use native.Mathlib.Omega.{arith}
 use lib.ListN.{length, take, drop, length-drop, take-append-drop}
 use lib.Seq.{length-take-le, drop-drop, take-append-le, drop-append-le, drop-append-add}
-use borrow.Author.Tests.{lt-ltb, le-ltb, ltb-false}
+use borrow.Author.Tests.{lt-ltb, le-ltb}
 use Rattle.plain.specs.Chars.{encode}
 use Rattle.plain.specs.Utf8.{validUtf8, decode}
 use Rattle.plain.specs.Count.{countIf}
 use Rattle.plain.specs.Place.{isStart}
 use Rattle.plain.specs.Edit.{putIn}
-use Rattle.plain.specs.Outcome.{Outcome, Outcome.value, Outcome.refused, Rule, ruled, past, part, mapped}
+use Rattle.plain.specs.Outcome.{Outcome, Outcome.value, past, part, mapped}
 use Rattle.plain.proofs.Logic.{cut}
-use Rattle.plain.proofs.Outcome.{one-passed, one-accepted, more-passed, more-refused}
+use Rattle.plain.proofs.Outcome.{one-passed}
 use Rattle.plain.proofs.Encode.{encode-take, encode-drop}
 use Rattle.plain.proofs.Utf8.{valid-sound}
 use Rattle.plain.proofs.Text.{chars-encode}
 use Rattle.plain.proofs.Place.{byte-of-char}
 use Rattle.plain.proofs.Edit.{replaced-length}
-use Rattle.plain_note.specs.Note.{insertRules, readFrom, previewed}
+use Rattle.plain_note.specs.Note.{readFrom, previewed}
 use Rattle.note_head.specs.Head.{ownOf}
 use Rattle.memory.specs.Formed.{wellFormed, noteOf}
 use Rattle.memory.proofs.Formed.{note-called}
@@ -29,8 +29,8 @@ use Rattle.leaf_parts.specs.Parts.{byteIn, fromChar}
 use Rattle.leaf_parts.specs.Front.{FrontChars}
 use Rattle.leaf_parts.proofs.Fronts.{take-min, rest-inner, front-filled, front-empty}
 use Rattle.leaf_parts.proofs.Notes.{note-chars}
-use Rattle.plain_note.proofs.Edits.{insert-says}
 use Rattle.runs.specs.Runs.{runOf, frontOf, joinedFrom, previewOf}
+use Rattle.runs.proofs.Says.{preview-says}
 
 -- ── a text with a piece put in ──
 
@@ -136,26 +136,6 @@ module _ (m cs piece : List ℕ) (p q : ℕ) (front : (at : ℕ) → at ≤ leng
       (λ l. subst (λ (t : List ℕ). PreviewFront (putIn p d cs) p q t) (sym (rw (le-ltb q p h, count, lt-ltb (q - p) (length d) l))) (within h l))
       (λ l. subst (λ (t : List ℕ). PreviewFront (putIn p d cs) p q t) (sym (rw (le-ltb q p h, count, le-ltb (q - p) (length d) l))) (beyond h l)))
 
--- an accepted preview: the places exist, and the piece is a text
-module _ (m : List ℕ) (p : ℕ) (piece : List ℕ) (q : ℕ) (t : List ℕ) where
-  abbrev rules : List Rule
-  rules = insertRules (noteOf m) p piece
-
-  abbrev joined : List ℕ
-  joined = putIn p (decode piece) (noteOf m .text)
-
-  preview-says : previewed (noteOf m) p piece q ≡ value t → (p ≤ length (noteOf m .text)) × (validUtf8 piece ≡ true) × (q ≤ length joined)
-  unfolding previewed
-  preview-says e = go (ruled rules (tt {0})) refl
-    where
-      go : (o : Outcome (Unit {0})) → ruled rules (tt {0}) ≡ o → (p ≤ length (noteOf m .text)) × (validUtf8 piece ≡ true) × (q ≤ length joined)
-      go (value a) f =
-          let s = insert-says (noteOf m) p piece (tt {0}) a f in
-          let l = one-accepted 3 (past q (length joined)) (encode (drop q joined)) t (sym (more-passed rules ((3, past q (length joined)) ∷ []) (tt {0}) a (encode (drop q joined)) f) ∙ e) in
-          (s .here, s .valid, ltb-false (length joined) q l)
-      go (refused n) f =
-          absurd (let z : refused n ≡ value t = sym (more-refused rules ((3, past q (length joined)) ∷ []) (tt {0}) (encode (drop q joined)) n f) ∙ e in let w : _≡_ {A = ℕ} 0 1 = cc in omega arith)
-
 -- ── THEOREMS: of a well-formed memory ──
 
 module _ (m : List ℕ) (ok : wellFormed m ≡ true) where
@@ -169,10 +149,10 @@ module _ (m : List ℕ) (ok : wellFormed m ≡ true) where
       → PreviewFront (putIn p (decode piece) (noteOf m .text)) p q (previewOf m p piece q)
   unfolding previewOf previewed
   preview-front p piece q t e =
-      let says = preview-says m p piece q t e in
+      let says = preview-says (noteOf m) p piece q t e in
       subst (λ (o : Outcome (List ℕ)). PreviewFront (putIn p (decode piece) (noteOf m .text)) p q (part (mapped (λ t. joinedFrom (ownOf m) p piece q) o)))
       (sym (note-called m (λ N. previewed N p piece q) ok ∙ e))
-      (joined-front (ownOf m) (noteOf m .text) piece p q (note-chars m ok) (says .0) (says .1) (says .2))
+      (joined-front (ownOf m) (noteOf m .text) piece p q (note-chars m ok) (says .here) (says .valid) (says .there))
 
   -- empty at the end, and there alone
   pub run-filled : (p : ℕ) → p < length (noteOf m .text) → 1 ≤ length (runOf m p)

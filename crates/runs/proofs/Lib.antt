@@ -1,2 +1,4 @@
 pub mod Rules
+pub mod Says
 pub mod Fronts
+pub mod Ends
