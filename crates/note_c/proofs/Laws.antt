@@ -3,10 +3,13 @@ use mathlib.Core.Path.{_≡_, refl, ap, subst, _∙_}
 use mathlib.Core.List.{List}
 use Prim.Native.Nat.{ℕ}
 use lib.ListN.{length}
-use Rattle.plain.specs.Outcome.{Outcome, Outcome.value, Outcome.refused, kept, mapped}
+use Rattle.plain.specs.Outcome.{Outcome, Outcome.value, Outcome.refused, part, kept, mapped}
 use Rattle.answer.specs.Answers.{number}
 use Rattle.answer.specs.declared.Number.{Number}
 use Rattle.leaf_bytes.specs.Leaf.{Leaf}
+use Rattle.plain_note.specs.Note.{readFrom, previewed}
+use Rattle.memory.specs.Formed.{ofNote}
+use Rattle.runs.specs.Runs.{runOf, previewOf}
 use Rattle.note_c.specs.Told.{code, Told, Copied}
 
 -- what was told of an answer is told of what the answer says
@@ -26,3 +29,18 @@ copied-told o out after x y r a h t = record {
   output = h .region;
   counted = t .written ∙ ap (kept x) (h .answered);
 }
+
+-- THEOREM: a part that is not empty shows that its call was accepted
+part-shows : {A : Type 0} (f : A → List ℕ) (o : Outcome A) (r : List ℕ) → r ≡ part (mapped f o) → (length r ≡ 0 → ⊥) → 0 ≡ code o
+unfolding code
+part-shows f (value a) r e h = refl
+part-shows f (refused n) r e h = absurd (h (ap length e))
+
+pub run-shows : (m : List ℕ) (p : ℕ) (r : List ℕ) → r ≡ runOf m p → (length r ≡ 0 → ⊥) → 0 ≡ code (ofNote m (λ N. readFrom N p))
+unfolding runOf
+run-shows m p r e h = part-shows _ (ofNote m (λ N. readFrom N p)) r e h
+
+pub preview-shows : (m : List ℕ) (p : ℕ) (piece : List ℕ) (q : ℕ) (r : List ℕ) → r ≡ previewOf m p piece q → (length r ≡ 0 → ⊥)
+    → 0 ≡ code (ofNote m (λ N. previewed N p piece q))
+unfolding previewOf
+preview-shows m p piece q r e h = part-shows _ (ofNote m (λ N. previewed N p piece q)) r e h

@@ -59,12 +59,17 @@ pub extern "C" fn wol_note_copy(m: &[u8], s: usize, e: usize, out: &mut [u8], co
     tell(note::copy_out(m, s, e, out), count)
 }
 
-// The run itself, not a copy, through `part`: an empty one where it is refused.
+// The run itself, not a copy, through `part`: an empty one where it is refused. One that is not empty shows that the call was accepted, so that its
+// companion, which checks the memory again, is asked of an empty one alone.
 #[no_mangle]
 pub extern "C" fn wol_note_run<'a>(m: &'a [u8], p: usize, part: &mut &'a [u8]) -> u8
     ensures { λ r. ⌜ (r ≡ code (ofNote (now (m .entry)) (λ N. readFrom N p))) × (now (now (part .exit)) ≡ runOf (now (m .entry)) p) ⌝ }
 {
-    *part = note::run(m, p);
+    let run = note::run(m, p);
+    *part = run;
+    if run.len() != 0 {
+        return 0;
+    }
     code_of(note::run_refusal(m, p))
 }
 
@@ -79,6 +84,10 @@ pub extern "C" fn wol_note_preview<'a>(
 ) -> u8
     ensures { λ r. ⌜ (r ≡ code (ofNote (now (m .entry)) (λ N. previewed N p (now (piece .entry)) q))) × (now (now (part .exit)) ≡ previewOf (now (m .entry)) p (now (piece .entry)) q) ⌝ }
 {
-    *part = note::preview(m, piece, p, q);
+    let shown = note::preview(m, piece, p, q);
+    *part = shown;
+    if shown.len() != 0 {
+        return 0;
+    }
     code_of(note::preview_refusal(m, piece, p, q))
 }
