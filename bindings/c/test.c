@@ -133,8 +133,6 @@ static void conversions(void) {
     REFUSED(wol_note_char_to_utf16_cu(memory, LEN, 7, &value), WOL_PLACE);
     REFUSED(wol_note_utf16_cu_to_char(memory, LEN, 8, &value), WOL_PLACE);
     REFUSED(wol_note_utf16_cu_to_char(memory, LEN, SIZE_MAX, &value), WOL_PLACE);
-    REFUSED(wol_note_read(0, memory, LEN, 0, &value), WOL_FIELD);
-    REFUSED(wol_note_read(WOL_MARK_LINE + 1, memory, LEN, 0, &value), WOL_FIELD);
 }
 
 /* Items 1 to 8 and 14; the marks that 7 names by their places are 0, 1 and 2. */
@@ -252,7 +250,22 @@ static void damaged(size_t len) {
     struct wol_part part;
 
     CHECK(!wol_note_check(memory, len));
-    for (uint8_t call = WOL_LEN_BYTES; call <= WOL_MARK_LINE; call++) REFUSED(wol_note_read(call, memory, len, 0, &value), WOL_MEMORY);
+    REFUSED(wol_note_len_bytes(memory, len, &value), WOL_MEMORY);
+    REFUSED(wol_note_len_chars(memory, len, &value), WOL_MEMORY);
+    REFUSED(wol_note_len_utf16_cu(memory, len, &value), WOL_MEMORY);
+    REFUSED(wol_note_len_lines(memory, len, &value), WOL_MEMORY);
+    REFUSED(wol_note_slots(memory, len, &value), WOL_MEMORY);
+    REFUSED(wol_note_edit_number(memory, len, &value), WOL_MEMORY);
+    REFUSED(wol_note_byte_to_char(memory, len, 0, &value), WOL_MEMORY);
+    REFUSED(wol_note_char_to_byte(memory, len, 0, &value), WOL_MEMORY);
+    REFUSED(wol_note_byte_to_line(memory, len, 0, &value), WOL_MEMORY);
+    REFUSED(wol_note_line_to_byte(memory, len, 0, &value), WOL_MEMORY);
+    REFUSED(wol_note_char_to_line(memory, len, 0, &value), WOL_MEMORY);
+    REFUSED(wol_note_line_to_char(memory, len, 0, &value), WOL_MEMORY);
+    REFUSED(wol_note_char_to_utf16_cu(memory, len, 0, &value), WOL_MEMORY);
+    REFUSED(wol_note_utf16_cu_to_char(memory, len, 0, &value), WOL_MEMORY);
+    REFUSED(wol_note_mark_place(memory, len, 0, &value), WOL_MEMORY);
+    REFUSED(wol_note_mark_line(memory, len, 0, &value), WOL_MEMORY);
     REFUSED(wol_note_insert(memory, len, 0, out, 0, &change), WOL_MEMORY);
     REFUSED(wol_note_remove(memory, len, 0, 0, &change), WOL_MEMORY);
     REFUSED(wol_note_set_mark(memory, len, 0, &value), WOL_MEMORY);

@@ -34,8 +34,7 @@ enum wol_refusal {
     WOL_ROOM = 6,     /* the note would exceed 64 x (n - 16) bytes */
     WOL_MARK = 7,     /* mark number not live */
     WOL_MARKS = 8,    /* 256 marks live already */
-    WOL_OUTPUT = 9,   /* output memory shorter than the bytes to copy */
-    WOL_FIELD = 10    /* wol_note_read alone: a number that names no call */
+    WOL_OUTPUT = 9    /* output memory shorter than the bytes to copy */
 };
 
 /* Bytes that are handed out where they lie, and not copied. They are valid until the memory or the piece they lie in changes. */
@@ -96,108 +95,53 @@ uint8_t wol_note_preview(const uint8_t *memory, size_t len, const uint8_t *piece
 
 /* ---- numbers; these change nothing of the memory ---- */
 
-/* The numbers of the calls below. */
-enum wol_call {
-    WOL_LEN_BYTES = 1,
-    WOL_LEN_CHARS,
-    WOL_LEN_UTF16_CU,
-    WOL_LEN_LINES,
-    WOL_SLOTS,
-    WOL_EDIT_NUMBER,
-    WOL_BYTE_TO_CHAR,
-    WOL_CHAR_TO_BYTE,
-    WOL_BYTE_TO_LINE,
-    WOL_LINE_TO_BYTE,
-    WOL_CHAR_TO_LINE,
-    WOL_LINE_TO_CHAR,
-    WOL_CHAR_TO_UTF16_CU,
-    WOL_UTF16_CU_TO_CHAR,
-    WOL_MARK_PLACE,
-    WOL_MARK_LINE
-};
-
-/* Asks the call of a number; those below have names for it. *value: its answer. Refused: as they are, and WOL_FIELD for a number that names none. */
-uint8_t wol_note_read(uint8_t call, const uint8_t *memory, size_t len, size_t index, uint64_t *value);
-
 /* *bytes: how many bytes the note has. Refused: WOL_MEMORY. */
-static inline uint8_t wol_note_len_bytes(const uint8_t *memory, size_t len, uint64_t *bytes) {
-    return wol_note_read(WOL_LEN_BYTES, memory, len, 0, bytes);
-}
+uint8_t wol_note_len_bytes(const uint8_t *memory, size_t len, uint64_t *bytes);
 
 /* *chars: how many chars it has, which is its last place. Refused: WOL_MEMORY. */
-static inline uint8_t wol_note_len_chars(const uint8_t *memory, size_t len, uint64_t *chars) {
-    return wol_note_read(WOL_LEN_CHARS, memory, len, 0, chars);
-}
+uint8_t wol_note_len_chars(const uint8_t *memory, size_t len, uint64_t *chars);
 
 /* *units: how many UTF-16 units it has. Refused: WOL_MEMORY. */
-static inline uint8_t wol_note_len_utf16_cu(const uint8_t *memory, size_t len, uint64_t *units) {
-    return wol_note_read(WOL_LEN_UTF16_CU, memory, len, 0, units);
-}
+uint8_t wol_note_len_utf16_cu(const uint8_t *memory, size_t len, uint64_t *units);
 
 /* *lines: how many lines it has, one more than line breaks. Refused: WOL_MEMORY. */
-static inline uint8_t wol_note_len_lines(const uint8_t *memory, size_t len, uint64_t *lines) {
-    return wol_note_read(WOL_LEN_LINES, memory, len, 0, lines);
-}
+uint8_t wol_note_len_lines(const uint8_t *memory, size_t len, uint64_t *lines);
 
 /* *n: the number of slots that it was opened with. Refused: WOL_MEMORY. */
-static inline uint8_t wol_note_slots(const uint8_t *memory, size_t len, uint64_t *n) {
-    return wol_note_read(WOL_SLOTS, memory, len, 0, n);
-}
+uint8_t wol_note_slots(const uint8_t *memory, size_t len, uint64_t *n);
 
 /* *edits: the edit number, how many edits changed the text; it returns to 0 after 4,294,967,295. Refused: WOL_MEMORY. */
-static inline uint8_t wol_note_edit_number(const uint8_t *memory, size_t len, uint64_t *edits) {
-    return wol_note_read(WOL_EDIT_NUMBER, memory, len, 0, edits);
-}
+uint8_t wol_note_edit_number(const uint8_t *memory, size_t len, uint64_t *edits);
 
 /* *place: that of the char that a byte lies in. Refused: WOL_MEMORY, WOL_PLACE. */
-static inline uint8_t wol_note_byte_to_char(const uint8_t *memory, size_t len, size_t byte, uint64_t *place) {
-    return wol_note_read(WOL_BYTE_TO_CHAR, memory, len, byte, place);
-}
+uint8_t wol_note_byte_to_char(const uint8_t *memory, size_t len, size_t byte, uint64_t *place);
 
 /* *byte: how many bytes are before a place. Refused: WOL_MEMORY, WOL_PLACE. */
-static inline uint8_t wol_note_char_to_byte(const uint8_t *memory, size_t len, size_t place, uint64_t *byte) {
-    return wol_note_read(WOL_CHAR_TO_BYTE, memory, len, place, byte);
-}
+uint8_t wol_note_char_to_byte(const uint8_t *memory, size_t len, size_t place, uint64_t *byte);
 
 /* *line: that of the char that a byte lies in. Refused: WOL_MEMORY, WOL_PLACE. */
-static inline uint8_t wol_note_byte_to_line(const uint8_t *memory, size_t len, size_t byte, uint64_t *line) {
-    return wol_note_read(WOL_BYTE_TO_LINE, memory, len, byte, line);
-}
+uint8_t wol_note_byte_to_line(const uint8_t *memory, size_t len, size_t byte, uint64_t *line);
 
 /* *byte: how many bytes are before a line; of the number of lines, all. Refused: WOL_MEMORY, WOL_PLACE above that. */
-static inline uint8_t wol_note_line_to_byte(const uint8_t *memory, size_t len, size_t line, uint64_t *byte) {
-    return wol_note_read(WOL_LINE_TO_BYTE, memory, len, line, byte);
-}
+uint8_t wol_note_line_to_byte(const uint8_t *memory, size_t len, size_t line, uint64_t *byte);
 
 /* *line: that of a place, counted from 0. Refused: WOL_MEMORY, WOL_PLACE. */
-static inline uint8_t wol_note_char_to_line(const uint8_t *memory, size_t len, size_t place, uint64_t *line) {
-    return wol_note_read(WOL_CHAR_TO_LINE, memory, len, place, line);
-}
+uint8_t wol_note_char_to_line(const uint8_t *memory, size_t len, size_t place, uint64_t *line);
 
 /* *place: where a line begins; of the number of lines, the end. Refused: WOL_MEMORY, WOL_PLACE above that. */
-static inline uint8_t wol_note_line_to_char(const uint8_t *memory, size_t len, size_t line, uint64_t *place) {
-    return wol_note_read(WOL_LINE_TO_CHAR, memory, len, line, place);
-}
+uint8_t wol_note_line_to_char(const uint8_t *memory, size_t len, size_t line, uint64_t *place);
 
 /* *unit: how many UTF-16 units are before a place. Refused: WOL_MEMORY, WOL_PLACE. */
-static inline uint8_t wol_note_char_to_utf16_cu(const uint8_t *memory, size_t len, size_t place, uint64_t *unit) {
-    return wol_note_read(WOL_CHAR_TO_UTF16_CU, memory, len, place, unit);
-}
+uint8_t wol_note_char_to_utf16_cu(const uint8_t *memory, size_t len, size_t place, uint64_t *unit);
 
 /* *place: that of the char that a UTF-16 unit lies in. Refused: WOL_MEMORY, WOL_PLACE. */
-static inline uint8_t wol_note_utf16_cu_to_char(const uint8_t *memory, size_t len, size_t unit, uint64_t *place) {
-    return wol_note_read(WOL_UTF16_CU_TO_CHAR, memory, len, unit, place);
-}
+uint8_t wol_note_utf16_cu_to_char(const uint8_t *memory, size_t len, size_t unit, uint64_t *place);
 
 /* *place: where a mark stands. Refused: WOL_MEMORY, WOL_MARK. */
-static inline uint8_t wol_note_mark_place(const uint8_t *memory, size_t len, size_t mark, uint64_t *place) {
-    return wol_note_read(WOL_MARK_PLACE, memory, len, mark, place);
-}
+uint8_t wol_note_mark_place(const uint8_t *memory, size_t len, size_t mark, uint64_t *place);
 
 /* *line: the line beside a mark, counted from 0. Refused: WOL_MEMORY, WOL_MARK. */
-static inline uint8_t wol_note_mark_line(const uint8_t *memory, size_t len, size_t mark, uint64_t *line) {
-    return wol_note_read(WOL_MARK_LINE, memory, len, mark, line);
-}
+uint8_t wol_note_mark_line(const uint8_t *memory, size_t len, size_t mark, uint64_t *line);
 
 #ifdef __cplusplus
 }

@@ -4,7 +4,7 @@ use std::fmt;
 use std::ops::Range;
 use std::str;
 
-use crate::sys::{self, Call};
+use crate::sys;
 use crate::{Byte, Line, Mark, Place, Refusal, Runs, Unit};
 
 /// How many bytes a note of so many slots needs. Refused by [`Refusal::Opening`] outside 17 to 4,096.
@@ -92,12 +92,12 @@ impl<'a> Note<'a> {
 
     /// Where a mark stands. Refused by [`Refusal::Mark`].
     pub fn mark_place(&self, mark: &Mark) -> Result<Place, Refusal> {
-        self.read(Call::MarkPlace, mark.0.into()).map(Place)
+        sys::mark_place(self.memory, mark.0.into()).map(Place)
     }
 
     /// The line beside a mark. Refused by [`Refusal::Mark`].
     pub fn mark_line(&self, mark: &Mark) -> Result<Line, Refusal> {
-        self.read(Call::MarkLine, mark.0.into()).map(Line)
+        sys::mark_line(self.memory, mark.0.into()).map(Line)
     }
 
     /// Copies chars to the front of the output, and answers them there; no more of it changes. Refused by
@@ -137,78 +137,74 @@ impl<'a> Note<'a> {
 
     /// How many bytes the note has.
     pub fn len_bytes(&self) -> Result<Byte, Refusal> {
-        self.read(Call::LenBytes, 0).map(Byte)
+        sys::len_bytes(self.memory).map(Byte)
     }
 
     /// How many chars it has: its last place.
     pub fn len_chars(&self) -> Result<Place, Refusal> {
-        self.read(Call::LenChars, 0).map(Place)
+        sys::len_chars(self.memory).map(Place)
     }
 
     /// How many UTF-16 units it has.
     pub fn len_utf16_cu(&self) -> Result<Unit, Refusal> {
-        self.read(Call::LenUtf16Cu, 0).map(Unit)
+        sys::len_utf16_cu(self.memory).map(Unit)
     }
 
     /// How many lines it has, one more than line breaks.
     pub fn len_lines(&self) -> Result<Line, Refusal> {
-        self.read(Call::LenLines, 0).map(Line)
+        sys::len_lines(self.memory).map(Line)
     }
 
     /// The number of slots that it was opened with.
     pub fn slots(&self) -> Result<usize, Refusal> {
-        self.read(Call::Slots, 0)
+        sys::slots(self.memory)
     }
 
     /// How many edits changed the text. It returns to 0 after 4,294,967,295.
     pub fn edit_number(&self) -> Result<u32, Refusal> {
         // It is kept in 32 bits.
-        self.read(Call::EditNumber, 0).map(|edits| edits as u32)
+        sys::edit_number(self.memory).map(|edits| edits as u32)
     }
 
     /// The place of the char that a byte lies in. This and the conversions below are refused by
     /// [`Refusal::Place`].
     pub fn byte_to_char(&self, byte: Byte) -> Result<Place, Refusal> {
-        self.read(Call::ByteToChar, byte.0).map(Place)
+        sys::byte_to_char(self.memory, byte.0).map(Place)
     }
 
     /// How many bytes are before a place.
     pub fn char_to_byte(&self, place: Place) -> Result<Byte, Refusal> {
-        self.read(Call::CharToByte, place.0).map(Byte)
+        sys::char_to_byte(self.memory, place.0).map(Byte)
     }
 
     /// The line of the char that a byte lies in.
     pub fn byte_to_line(&self, byte: Byte) -> Result<Line, Refusal> {
-        self.read(Call::ByteToLine, byte.0).map(Line)
+        sys::byte_to_line(self.memory, byte.0).map(Line)
     }
 
     /// How many bytes are before a line; of the number of lines, all.
     pub fn line_to_byte(&self, line: Line) -> Result<Byte, Refusal> {
-        self.read(Call::LineToByte, line.0).map(Byte)
+        sys::line_to_byte(self.memory, line.0).map(Byte)
     }
 
     /// The line of a place. Between CR and LF it is still the old one.
     pub fn char_to_line(&self, place: Place) -> Result<Line, Refusal> {
-        self.read(Call::CharToLine, place.0).map(Line)
+        sys::char_to_line(self.memory, place.0).map(Line)
     }
 
     /// Where a line begins; of the number of lines, the end.
     pub fn line_to_char(&self, line: Line) -> Result<Place, Refusal> {
-        self.read(Call::LineToChar, line.0).map(Place)
+        sys::line_to_char(self.memory, line.0).map(Place)
     }
 
     /// How many UTF-16 units are before a place.
     pub fn char_to_utf16_cu(&self, place: Place) -> Result<Unit, Refusal> {
-        self.read(Call::CharToUtf16Cu, place.0).map(Unit)
+        sys::char_to_utf16_cu(self.memory, place.0).map(Unit)
     }
 
     /// The place of the char that a UTF-16 unit lies in.
     pub fn utf16_cu_to_char(&self, unit: Unit) -> Result<Place, Refusal> {
-        self.read(Call::Utf16CuToChar, unit.0).map(Place)
-    }
-
-    fn read(&self, call: Call, index: usize) -> Result<usize, Refusal> {
-        sys::read(call, self.memory, index)
+        sys::utf16_cu_to_char(self.memory, unit.0).map(Place)
     }
 }
 

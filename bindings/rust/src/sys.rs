@@ -10,28 +10,6 @@ use std::slice;
 
 use crate::Refusal;
 
-/// The calls that answer a number.
-#[derive(Clone, Copy)]
-#[repr(u8)]
-pub enum Call {
-    LenBytes = 1,
-    LenChars,
-    LenUtf16Cu,
-    LenLines,
-    Slots,
-    EditNumber,
-    ByteToChar,
-    CharToByte,
-    ByteToLine,
-    LineToByte,
-    CharToLine,
-    LineToChar,
-    CharToUtf16Cu,
-    Utf16CuToChar,
-    MarkPlace,
-    MarkLine,
-}
-
 /// A part that is handed out.
 #[repr(C)]
 struct Part {
@@ -96,7 +74,6 @@ extern "C" {
         from: usize,
         part: &mut Part,
     ) -> u8;
-    fn wol_note_read(call: u8, memory: *const u8, len: usize, index: usize, value: &mut u64) -> u8;
 }
 
 pub fn open(memory: &mut [u8], n: usize) -> Result<(), Refusal> {
@@ -162,10 +139,37 @@ pub fn preview<'a>(
     Ok(unsafe { part.bytes() })
 }
 
-pub fn read(call: Call, memory: &[u8], index: usize) -> Result<usize, Refusal> {
-    let mut value = 0;
-    Refusal::told(unsafe {
-        wol_note_read(call as u8, memory.as_ptr(), memory.len(), index, &mut value)
-    })?;
-    Ok(value as usize)
+/// The calls that answer a number, some of an index or a mark.
+macro_rules! numbers {
+    ($($name:ident = $call:ident($($index:ident)?),)*) => {
+        extern "C" {
+            $(fn $call(memory: *const u8, len: usize, $($index: usize,)? value: &mut u64) -> u8;)*
+        }
+
+        $(pub fn $name(memory: &[u8], $($index: usize)?) -> Result<usize, Refusal> {
+            let (at, len) = (memory.as_ptr(), memory.len());
+            let mut value = 0;
+            Refusal::told(unsafe { $call(at, len, $($index,)? &mut value) })?;
+            Ok(value as usize)
+        })*
+    };
+}
+
+numbers! {
+    len_bytes = wol_note_len_bytes(),
+    len_chars = wol_note_len_chars(),
+    len_utf16_cu = wol_note_len_utf16_cu(),
+    len_lines = wol_note_len_lines(),
+    slots = wol_note_slots(),
+    edit_number = wol_note_edit_number(),
+    byte_to_char = wol_note_byte_to_char(byte),
+    char_to_byte = wol_note_char_to_byte(place),
+    byte_to_line = wol_note_byte_to_line(byte),
+    line_to_byte = wol_note_line_to_byte(line),
+    char_to_line = wol_note_char_to_line(place),
+    line_to_char = wol_note_line_to_char(line),
+    char_to_utf16_cu = wol_note_char_to_utf16_cu(place),
+    utf16_cu_to_char = wol_note_utf16_cu_to_char(unit),
+    mark_place = wol_note_mark_place(mark),
+    mark_line = wol_note_mark_line(mark),
 }

@@ -1,17 +1,20 @@
 -- What C is told, from what the calls answer.
-use mathlib.Core.Path.{_≡_, refl, sym, ap, _∙_}
+use mathlib.Core.Path.{_≡_, refl, ap, subst, _∙_}
 use mathlib.Core.List.{List}
-use Prim.Native.Nat.{ℕ, _-_, _≤_, _<_}
-use lib.ListN.{length, getD}
-use borrow.Author.Tests.{lt-ltb, le-ltb, eq-eqb, ne-eqb}
-use Rattle.plain.specs.Outcome.{Outcome, Outcome.value, Outcome.refused, kept, mapped}
+use Prim.Native.Nat.{ℕ}
+use lib.ListN.{length}
+use Rattle.plain.specs.Outcome.{Outcome, Outcome.value, Outcome.refused, part, kept, mapped}
 use Rattle.answer.specs.Answers.{number}
 use Rattle.answer.specs.declared.Number.{Number}
 use Rattle.leaf_bytes.specs.Leaf.{Leaf}
-use Rattle.note_c.specs.Asked.{asked, calls, askedBy}
-use Rattle.note_c.specs.Told.{code, Copied}
-use Rattle.note_c.specs.declared.calls.Call.{Call}
-use Rattle.note_c.specs.declared.calls.Call.the-variants.{LenBytes}
+use Rattle.plain_note.specs.Note.{readFrom, previewed}
+use Rattle.memory.specs.Formed.{ofNote}
+use Rattle.runs.specs.Runs.{runOf, previewOf}
+use Rattle.note_c.specs.Told.{code, Told, Copied}
+
+-- what was told of an answer is told of what the answer says
+pub told : (said o : Outcome ℕ) (out after r : ℕ) → said ≡ o → Told said out r after → Told o out r after
+told said o out after r e t = subst (λ (x : Outcome ℕ). Told x out r after) e t
 
 -- a value that is read otherwise has the same code
 pub mapped-code : {A B : Type 0} (f : A → B) (o : Outcome A) → code (mapped f o) ≡ code o
@@ -20,26 +23,24 @@ mapped-code f (value a) = refl
 mapped-code f (refused n) = refl
 
 -- bytes that were copied
-pub copied-told : (o : Outcome (List ℕ)) (out after : List ℕ) (x y r : ℕ) (a : Number) → Leaf o out a after → r ≡ code (number a) → y ≡ kept x (number a) → Copied o out x r after y
-copied-told o out after x y r a h c k = record {
-  coded = c ∙ (ap code (h .answered) ∙ mapped-code length o);
+pub copied-told : (o : Outcome (List ℕ)) (out after : List ℕ) (x y r : ℕ) (a : Number) → Leaf o out a after → Told (number a) x r y → Copied o out x r after y
+copied-told o out after x y r a h t = record {
+  coded = t .coded ∙ (ap code (h .answered) ∙ mapped-code length o);
   output = h .region;
-  counted = k ∙ ap (kept x) (h .answered);
+  counted = t .written ∙ ap (kept x) (h .answered);
 }
 
--- ── by call and by number ──
+-- THEOREM: a part that is not empty shows that its call was accepted
+part-shows : {A : Type 0} (f : A → List ℕ) (o : Outcome A) (r : List ℕ) → r ≡ part (mapped f o) → (length r ≡ 0 → ⊥) → 0 ≡ code o
+unfolding code
+part-shows f (value a) r e h = refl
+part-shows f (refused n) r e h = absurd (h (ap length e))
 
-pub by-call : (k j : Call) (m : List ℕ) (i : ℕ) (o : Outcome ℕ) → k ≡ j → o ≡ asked j m i → o ≡ asked k m i
-by-call k j m i o e f = f ∙ sym (ap (λ (x : Call). asked x m i) e)
+pub run-shows : (m : List ℕ) (p : ℕ) (r : List ℕ) → r ≡ runOf m p → (length r ≡ 0 → ⊥) → 0 ≡ code (ofNote m (λ N. readFrom N p))
+unfolding runOf
+run-shows m p r e h = part-shows _ (ofNote m (λ N. readFrom N p)) r e h
 
-pub no-call-0 : (k : ℕ) (m : List ℕ) (i : ℕ) → k ≡ 0 → refused 10 ≡ askedBy k m i
-unfolding askedBy
-no-call-0 k m i e = sym (rw (eq-eqb k 0 e))
-
-pub no-call : (k : ℕ) (m : List ℕ) (i : ℕ) → (k ≡ 0 → ⊥) → 16 < k → refused 10 ≡ askedBy k m i
-unfolding askedBy
-no-call k m i z h = sym (rw (ne-eqb k 0 z, lt-ltb 16 k h))
-
-pub by-number : (k : ℕ) (m : List ℕ) (i : ℕ) (o : Outcome ℕ) → (k ≡ 0 → ⊥) → k ≤ 16 → o ≡ asked (getD calls (k - 1) LenBytes) m i → o ≡ askedBy k m i
-unfolding askedBy
-by-number k m i o z h e = e ∙ sym (rw (ne-eqb k 0 z, le-ltb 16 k h))
+pub preview-shows : (m : List ℕ) (p : ℕ) (piece : List ℕ) (q : ℕ) (r : List ℕ) → r ≡ previewOf m p piece q → (length r ≡ 0 → ⊥)
+    → 0 ≡ code (ofNote m (λ N. previewed N p piece q))
+unfolding previewOf
+preview-shows m p piece q r e h = part-shows _ (ofNote m (λ N. previewed N p piece q)) r e h

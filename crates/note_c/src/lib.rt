@@ -1,6 +1,6 @@
-// The calls of a note for C and Rust to link: opening, the check, and what reads. Each but the check returns 0, or document 01's number of the
-// refusal.
-mod calls;
+// The calls of a note for C and Rust to link: opening, the check, and what reads; those that answer a number are in `numbers`. Each but the check
+// returns 0, or document 01's number of the refusal.
+mod numbers;
 
 use answer::Number;
 use answer::Verdict;
@@ -12,8 +12,7 @@ ghost use Rattle.answer.specs.Answers.{number, verdict};
 ghost use Rattle.memory.specs.Formed.{wellFormed, ofNote};
 ghost use Rattle.opening.specs.Opened.{opens};
 ghost use Rattle.runs.specs.Runs.{runOf, previewOf};
-ghost use Rattle.note_c.specs.Asked.{askedBy};
-ghost use Rattle.note_c.specs.Told.{code, Copied};
+ghost use Rattle.note_c.specs.Told.{code, Told, Copied};
 
 // What C is told of a verdict: 0, or the number of the refusal.
 pub fn code_of(v: Verdict) -> u8
@@ -27,7 +26,7 @@ pub fn code_of(v: Verdict) -> u8
 
 // The same of a number, which is written through `out`; a refusal writes nothing.
 pub fn tell(a: Number, out: &mut u64) -> u8
-    ensures { λ r. ⌜ (r ≡ code (number a)) × (now (out .exit) ≡ kept (now (out .entry)) (number a)) ⌝ }
+    ensures { λ r. ⌜ Told (number a) (now (out .entry)) r (now (out .exit)) ⌝ }
 {
     match a {
         Number::Is(n) => {
@@ -52,14 +51,6 @@ pub extern "C" fn wol_note_check(m: &[u8]) -> bool
     note::check(m)
 }
 
-// The call with a number, as `calls` has them, and its value through `out`.
-#[no_mangle]
-pub extern "C" fn wol_note_read(call: u8, m: &[u8], index: usize, out: &mut u64) -> u8
-    ensures { λ r. ⌜ (r ≡ code (askedBy call (now (m .entry)) index)) × (now (out .exit) ≡ kept (now (out .entry)) (askedBy call (now (m .entry)) index)) ⌝ }
-{
-    tell(calls::ask_by(call, m, index), out)
-}
-
 // The chars of [s, e) at the front of `out`, and through `count` how many bytes they are.
 #[no_mangle]
 pub extern "C" fn wol_note_copy(m: &[u8], s: usize, e: usize, out: &mut [u8], count: &mut u64) -> u8
@@ -68,12 +59,17 @@ pub extern "C" fn wol_note_copy(m: &[u8], s: usize, e: usize, out: &mut [u8], co
     tell(note::copy_out(m, s, e, out), count)
 }
 
-// The run itself, not a copy, through `part`: an empty one where it is refused.
+// The run itself, not a copy, through `part`: an empty one where it is refused. One that is not empty shows that the call was accepted, so that its
+// companion, which checks the memory again, is asked of an empty one alone.
 #[no_mangle]
 pub extern "C" fn wol_note_run<'a>(m: &'a [u8], p: usize, part: &mut &'a [u8]) -> u8
     ensures { λ r. ⌜ (r ≡ code (ofNote (now (m .entry)) (λ N. readFrom N p))) × (now (now (part .exit)) ≡ runOf (now (m .entry)) p) ⌝ }
 {
-    *part = note::run(m, p);
+    let run = note::run(m, p);
+    *part = run;
+    if run.len() != 0 {
+        return 0;
+    }
     code_of(note::run_refusal(m, p))
 }
 
@@ -88,6 +84,10 @@ pub extern "C" fn wol_note_preview<'a>(
 ) -> u8
     ensures { λ r. ⌜ (r ≡ code (ofNote (now (m .entry)) (λ N. previewed N p (now (piece .entry)) q))) × (now (now (part .exit)) ≡ previewOf (now (m .entry)) p (now (piece .entry)) q) ⌝ }
 {
-    *part = note::preview(m, piece, p, q);
+    let shown = note::preview(m, piece, p, q);
+    *part = shown;
+    if shown.len() != 0 {
+        return 0;
+    }
     code_of(note::preview_refusal(m, piece, p, q))
 }

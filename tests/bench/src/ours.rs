@@ -57,7 +57,7 @@ pub fn open(memory: &mut [u8], n: usize) {
 }
 
 pub fn read(call: Call, memory: &[u8], index: usize) -> usize {
-    let (refusal, number) = notes::ours::read(call as u8, memory, index);
+    let (refusal, number) = notes::ours::read(call, memory, index);
     assert_eq!(refusal, 0, "{call:?} of {index}");
     number as usize
 }

@@ -6,10 +6,10 @@ use crate::formed::Note;
 use crate::memory;
 use crate::places::Measure::{self, Byte, Char, Line, Unit};
 
-/// The calls that answer a number, by the numbers of `wol_note_read`.
+/// The calls that answer a number.
 #[derive(Clone, Copy, Debug, PartialEq, Eq)]
 pub enum Call {
-    LenBytes = 1,
+    LenBytes,
     LenChars,
     LenUtf16Cu,
     LenLines,

@@ -2,11 +2,8 @@
 
 use std::time::{Duration, Instant};
 
-use crate::asks::{Answer, Ask, Part, UNTOUCHED};
-use crate::library::{
-    wol_note_check, wol_note_copy, wol_note_open, wol_note_preview, wol_note_read, wol_note_run,
-    Slice,
-};
+use crate::asks::{Answer, Ask, Call, Part, UNTOUCHED};
+use crate::library::*;
 
 /// Opens a note, and answers the refusal or 0.
 pub fn open(memory: &mut [u8], n: usize) -> u8 {
@@ -18,11 +15,32 @@ pub fn check(memory: &[u8]) -> bool {
     unsafe { wol_note_check(memory.as_ptr(), memory.len()) }
 }
 
-/// The call of any number that answers one: the refusal or 0, and the number.
-pub fn read(call: u8, memory: &[u8], index: usize) -> (u8, u64) {
+/// A call that answers a number: the refusal or 0, and the number.
+pub fn read(call: Call, memory: &[u8], index: usize) -> (u8, u64) {
     let mut number = UNTOUCHED;
-    let refusal = unsafe { wol_note_read(call, memory.as_ptr(), memory.len(), index, &mut number) };
+    let refusal = unsafe { number_of(call, memory.as_ptr(), memory.len(), index, &mut number) };
     (refusal, number)
+}
+
+unsafe fn number_of(call: Call, at: *const u8, len: usize, i: usize, value: &mut u64) -> u8 {
+    match call {
+        Call::LenBytes => wol_note_len_bytes(at, len, value),
+        Call::LenChars => wol_note_len_chars(at, len, value),
+        Call::LenUtf16Cu => wol_note_len_utf16_cu(at, len, value),
+        Call::LenLines => wol_note_len_lines(at, len, value),
+        Call::Slots => wol_note_slots(at, len, value),
+        Call::EditNumber => wol_note_edit_number(at, len, value),
+        Call::ByteToChar => wol_note_byte_to_char(at, len, i, value),
+        Call::CharToByte => wol_note_char_to_byte(at, len, i, value),
+        Call::ByteToLine => wol_note_byte_to_line(at, len, i, value),
+        Call::LineToByte => wol_note_line_to_byte(at, len, i, value),
+        Call::CharToLine => wol_note_char_to_line(at, len, i, value),
+        Call::LineToChar => wol_note_line_to_char(at, len, i, value),
+        Call::CharToUtf16Cu => wol_note_char_to_utf16_cu(at, len, i, value),
+        Call::Utf16CuToChar => wol_note_utf16_cu_to_char(at, len, i, value),
+        Call::MarkPlace => wol_note_mark_place(at, len, i, value),
+        Call::MarkLine => wol_note_mark_line(at, len, i, value),
+    }
 }
 
 /// The answer, and how long it took.
@@ -41,7 +59,7 @@ pub fn ask(memory: &[u8], ask: &Ask) -> (Answer, Duration) {
                 number = u64::from(check(memory));
                 0
             }
-            Ask::Read(call, index) => wol_note_read(call as u8, at, len, index, &mut number),
+            Ask::Read(call, index) => number_of(call, at, len, index, &mut number),
             Ask::Copy { start, end, .. } => {
                 let out = &mut answer.out;
                 wol_note_copy(

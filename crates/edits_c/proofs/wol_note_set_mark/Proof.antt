@@ -16,7 +16,7 @@ same-length c = search needs
 returns : tie.Need-returns
 returns c =
     let w = c .before .before .before .before .set-mark .ensures in
-    (mark-told _ _ _ _ _ w, told _ _ _ (w .called .answered) _ _ _ (c .tell .ensures .0) (c .tell .ensures .1))
+    (mark-told _ _ _ _ _ w, told _ _ _ (w .called .answered) _ _ _ (c .tell .ensures .coded) (c .tell .ensures .written))
 
 pub wol-note-set-mark-spec : {M : Type 1} → statement M
 wol-note-set-mark-spec = tie.close (tie.spec set-mark-requires tell-requires same-length returns)

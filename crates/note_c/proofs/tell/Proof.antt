@@ -20,13 +20,13 @@ returns : tie.Need-returns
 unfolding code
 returns c =
     let o = sym (ap number (c .before .a .given .1)) in
-    (ap code o, ap (kept (c .before .before .before .args .out .now)) o)
+    record { coded = ap code o; written = ap (kept (c .before .before .before .args .out .now)) o }
 
 returns-2 : tie.Need-returns-2
 unfolding code
 returns-2 c =
     let o = sym (ap number (c .before .before .a2 .given .1)) in
-    (c .number-of .ensures ∙ ap code o, ap (kept (c .before .before .before .before .args .out .now)) o)
+    record { coded = c .number-of .ensures ∙ ap code o; written = ap (kept (c .before .before .before .before .args .out .now)) o }
 
 pub tell-spec : {M : Type 1} → statement M
 tell-spec = tie.close (tie.spec enum-known-a enum-known-a-2 number-of-requires returns returns-2)

@@ -14,7 +14,7 @@ same-length : tie.Need-same-length
 same-length c = search needs
 
 returns : tie.Need-returns
-returns c = copied-told _ _ _ _ _ _ _ (c .before .before .before .before .copy-out .ensures) (c .tell .ensures .0) (c .tell .ensures .1)
+returns c = copied-told _ _ _ _ _ _ _ (c .before .before .before .before .copy-out .ensures) (c .tell .ensures)
 
 pub wol-note-copy-spec : {M : Type 1} → statement M
 wol-note-copy-spec = tie.close (tie.spec copy-out-requires tell-requires same-length returns)

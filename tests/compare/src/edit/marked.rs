@@ -94,7 +94,7 @@ impl Pair {
     /// Asks some marks after an edit, and the edit number.
     pub fn hold_marks(&self, random: &mut Random, group: &mut Group) -> Result<(), String> {
         group.ask();
-        let edits = ours::read(Call::EditNumber as u8, &self.memory, 0);
+        let edits = ours::read(Call::EditNumber, &self.memory, 0);
         if edits != (0, u64::from(self.marks.edits)) {
             return Err(format!("the edit number is {edits:?}"));
         }
@@ -112,7 +112,7 @@ impl Pair {
         let place = self.marks.place(mark);
         let line = place.map(|place| self.rope.char_to_line(place));
         for (call, due) in [(Call::MarkPlace, place), (Call::MarkLine, line)] {
-            let ours = ours::read(call as u8, &self.memory, mark);
+            let ours = ours::read(call, &self.memory, mark);
             let told = match due {
                 Ok(number) => (0, number as u64),
                 Err(refusal) => (refusal, UNTOUCHED),

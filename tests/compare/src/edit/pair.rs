@@ -227,7 +227,7 @@ impl Pair {
 
     fn compare(&self, call: Call, index: usize, group: &mut Group) -> Result<(), String> {
         group.ask();
-        let ours = ours::read(call as u8, &self.memory, index);
+        let ours = ours::read(call, &self.memory, index);
         let due = source::ask(&self.rope, call, index).expect("the source has the call");
         if ours == (0, due as u64) {
             return Ok(());

@@ -1,7 +1,7 @@
 //! The groups of the comparison: small notes asked at every index, and large ones at the seams and
 //! at any index.
 
-use notes::asks::{Ask, Part, CONVERSIONS, OF_MARKS, TOTALS, UNTOUCHED};
+use notes::asks::{Ask, Part, CONVERSIONS, OF_MARKS, TOTALS};
 use notes::build;
 use notes::formed::{self, Note};
 use notes::lent::Lent;
@@ -134,10 +134,6 @@ fn others(random: &mut Random, case: &Case, asked: usize, group: &mut Group) {
             group.compare(case, &Ask::Read(call, mark));
         }
         group.compare(case, &Ask::Read(call, usize::MAX));
-    }
-    for number in [0, 17, 255] {
-        let is_refused = ours::read(number, case.memory, 0) == (10, UNTOUCHED);
-        group.hold(case, is_refused, "a number that names no call");
     }
     for _ in 0..asked {
         let [start, end] = [(); 2].map(|_| any_index(random, note, Measure::Char));
