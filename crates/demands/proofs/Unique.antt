@@ -1,15 +1,16 @@
 -- No second outcome: two outcomes that meet the promise of a call are equal in answer, refusal, note, marks and edit number, and in every byte but those
 -- that tell the tree's shape.
-use mathlib.Core.Path.{_≡_, refl, sym, ap, _∙_}
+use mathlib.Core.Path.{_≡_, refl, sym, ap, subst, _∙_}
 use mathlib.Core.List.{List}
 use Prim.Native.Nat.{ℕ}
 use lib.IntN.{ℤ}
-use lib.ListN.{length, drop, take}
+use lib.ListN.{length, drop}
 use Rattle.plain.specs.Outcome.{Outcome, Outcome.value, Outcome.refused}
 use Rattle.plain_note.specs.Note.{Note, need}
 use Rattle.note_head.specs.Head.{nOf}
 use Rattle.memory.specs.Formed.{noteOf, ofNote}
 use Rattle.held.specs.Held.{Kept}
+use Rattle.held.proofs.Keeps.{kept-same, kept-twice, kept-back}
 use Rattle.note_promise.specs.Called.{Called, EditCalled, MarkCalled}
 
 -- THEOREM: of any call
@@ -34,7 +35,7 @@ module _ {A : Type 0} (o : Note → Outcome (A × Note)) (m : List ℕ) (a b : O
           let z : x ≡ y = v .unchanged n e ∙ sym (w .unchanged n e) in
           record { note = ap (λ (l : List ℕ). noteOf l) z; long = ap length z; beyond = ap (drop (need (nOf m))) z }
 
--- THEOREM: of an edit, the head beside the tree too
+-- THEOREM: of an edit, every byte of the head but those of the root, of the height and of the first free slot too
 pub one-head : (o : Note → Outcome (ℤ × Note)) (s e : ℕ) (piece m : List ℕ) (a b : Outcome ℤ) (x y : List ℕ)
     → EditCalled o s e piece m a x → EditCalled o s e piece m b y → Kept x y
 one-head o s e piece m a b x y v w = go (ofNote m o) refl
@@ -43,8 +44,8 @@ one-head o s e piece m a b x y v w = go (ofNote m o) refl
     go (value r) f =
         let p = v .head (r .0) (r .1) f in
         let q = w .head (r .0) (r .1) f in
-        record { front = q .front ∙ sym (p .front); rest = q .rest ∙ sym (p .rest) }
-    go (refused n) f = let z : y ≡ x = w .called .unchanged n f ∙ sym (v .called .unchanged n f) in record { front = ap (take 8) z; rest = ap (λ (l : List ℕ). drop 36 (take 6144 l)) z }
+        kept-twice x _ y (kept-back _ x p) q
+    go (refused n) f = let z : x ≡ y = v .called .unchanged n f ∙ sym (w .called .unchanged n f) in subst (Kept x) z (kept-same x)
 
 -- THEOREM: of a mark set or dropped, every byte
 pub one-memory : {A : Type 0} (o : Note → Outcome (A × Note)) (bytes : A → List ℕ) (m : List ℕ) (a b : Outcome A) (x y : List ℕ)

@@ -126,6 +126,7 @@ module _ (m : List ℕ) (ok : wellFormed m ≡ true) where
     head-kept =
         record {
           front = after-front 8 (omega arith) ∙ t .kept .front ∙ own-front 8 (omega arith);
+          middle = ap (drop 29) (after-front 32 (omega arith)) ∙ t .kept .middle ∙ ap (drop 29) (own-front 32 (omega arith));
           rest = ap (drop 36) (after-front slotsAt (omega arith)) ∙ t .kept .rest ∙ ap (drop 36) (own-front slotsAt (omega arith));
         }
 

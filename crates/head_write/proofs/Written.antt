@@ -38,9 +38,9 @@ module _ (a : ℕ) (x m : List ℕ) (h : 6144 ≤ length m) (k : a + length x �
   pub laid-front : (q : ℕ) → q ≤ a → take q later ≡ take q m
   laid-front q g = over-front a x m inside q g
 
-  -- of the head, from a place on
-  pub laid-rest : (q : ℕ) → a + length x ≤ q → drop q (take slotsAt later) ≡ drop q (take slotsAt m)
-  laid-rest q g = part-is q slotsAt later ∙ part-behind a x m inside q (slotsAt - q) g ∙ sym (part-is q slotsAt m)
+  -- from one place on, up to another
+  pub laid-part : (q e : ℕ) → a + length x ≤ q → drop q (take e later) ≡ drop q (take e m)
+  laid-part q e g = part-is q e later ∙ part-behind a x m inside q (e - q) g ∙ sym (part-is q e m)
 
   n-kept : 4 ≤ a → nOf later ≡ nOf m
   unfolding nOf
@@ -111,7 +111,7 @@ around a x m h k =
       size = laid-size a x m h i;
       slots = laid-slots a x m h i;
       behind = laid-behind a x m h i;
-      rest = laid-rest a x m h i 36 k;
+      rest = laid-part a x m h i 36 slotsAt k;
       live = laid-live a x m h i l;
       place = laid-place a x m h i l;
       mark = laid-mark a x m h i l;

@@ -26,7 +26,9 @@ pub record Held (m : List ℕ) (n : ℕ) (t : List ℕ) : Type 0 where
 abbrev pub Holds : List ℕ → Type 0
 Holds m = Held m (nOf m) (noteBytes m)
 
--- the number of slots, the edit number and the marks are as they were: what the head holds beside the root, the height and the first free slot
+-- Every byte of the head is as it was but those that tell the root (8 to 27), the height (28) and the first free slot (32 to 35): so are the number of
+-- slots, the edit number and the marks.
 pub record Kept (m later : List ℕ) : Type 0 where
   pub front : take 8 later ≡ take 8 m
+  pub middle : drop 29 (take 32 later) ≡ drop 29 (take 32 m)
   pub rest : drop 36 (take slotsAt later) ≡ drop 36 (take slotsAt m)

@@ -14,7 +14,7 @@ use Rattle.pool.proofs.Over.{over-front, over-take, part-over}
 use Rattle.pool.proofs.Numbers.{four-length}
 use Rattle.note_head.specs.Head.{editOf, markStart, liveAt, placeAt}
 use Rattle.head_write.specs.Writes.{numberPut, placePut}
-use Rattle.head_write.proofs.Written.{edit-around}
+use Rattle.head_write.proofs.Written.{laid-part, edit-around}
 use Rattle.held.specs.Held.{Kept}
 use Rattle.held.proofs.Keeps.{kept-live, kept-place, kept-edit}
 use Rattle.marks.specs.MarkBytes.{markMoved, marksMoved, editedPut}
@@ -39,6 +39,7 @@ module _ (m later : List ℕ) (h : 6144 ≤ length m) (g : 6144 ≤ length later
       let e = four-length v in
       record {
         front = over-front p x later (omega arith) 8 (omega arith) ∙ w .front ∙ sym (over-front p x m (omega arith) 8 (omega arith));
+        middle = ap (drop 29) (over-front p x later (omega arith) 32 (omega arith)) ∙ w .middle ∙ sym (ap (drop 29) (over-front p x m (omega arith) 32 (omega arith)));
         rest = rest-laid later x p g (omega arith) (omega arith) ∙ ap (overlaid (p - 36) x) (w .rest) ∙ sym (rest-laid m x p h (omega arith) (omega arith));
       }
 
@@ -49,6 +50,7 @@ module _ (m later : List ℕ) (h : 6144 ≤ length m) (g : 6144 ≤ length later
       let e = four-length v in
       record {
         front = over-take 4 8 x later (omega arith) (omega arith) ∙ ap (overlaid 4 x) (w .front) ∙ sym (over-take 4 8 x m (omega arith) (omega arith));
+        middle = laid-part 4 x later g (omega arith) 29 32 (omega arith) ∙ w .middle ∙ sym (laid-part 4 x m h (omega arith) 29 32 (omega arith));
         rest = edit-around v later g .rest ∙ w .rest ∙ sym (edit-around v m h .rest);
       }
 

@@ -5,7 +5,7 @@ use mathlib.Core.List.{List, [], _∷_}
 use Prim.Native.Nat.{ℕ, zero, suc, _+_, _-_, _≤_}
 use native.Mathlib.Omega.{arith}
 use lib.ListN.{length, take, getD}
-use lib.Seq.{getD-take, take-take}
+use lib.Seq.{getD-take}
 use Rattle.plain.proofs.Logic.{and-right}
 use Rattle.pool.specs.declared.Kid.{Kid}
 use Rattle.pool.specs.Big.{fourAt}
@@ -32,9 +32,6 @@ module _ (m a : List ℕ) (e : take 32 a ≡ take 32 m) where
   pub height-same : heightOf a ≡ heightOf m
   unfolding heightOf
   height-same = sym (getD-take 32 a 28 0 (omega arith)) ∙ ap (λ (x : List ℕ). getD x 28 0) e ∙ getD-take 32 m 28 0 (omega arith)
-
-  pub front-same : take 8 a ≡ take 8 m
-  front-same = sym (take-take 8 32 a (omega arith)) ∙ ap (take 8) e ∙ take-take 8 32 m (omega arith)
 
 -- ── sizes ──
 

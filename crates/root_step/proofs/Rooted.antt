@@ -33,10 +33,10 @@ use Rattle.list_step.proofs.Laws.{text-one}
 use Rattle.list_step.proofs.Family.{Family, countsOf, narrow-enough, is-sound, is-told, is-became}
 use Rattle.held.specs.Held.{Held, Kept}
 use Rattle.held.proofs.Laws.{held-low, held-once}
-use Rattle.held.proofs.Keeps.{kept-twice}
+use Rattle.held.proofs.Keeps.{kept-twice, kept-but-free}
 use Rattle.root_step.specs.Root.{topPut, raised, grown, only, gaveWay, shrunk, rooted}
 use Rattle.root_step.proofs.Rules.{raised-by, grown-it, gave-by, only-many, only-one, only-leaf, shrunk-stays, shrunk-gives}
-use Rattle.root_step.proofs.Parts.{root-same, height-same, front-same, two-least, none-least, resized, child-root, child-told, one-used, one-of, none-of, two-or-more}
+use Rattle.root_step.proofs.Parts.{root-same, height-same, two-least, none-least, resized, child-root, child-told, one-used, one-of, none-of, two-or-more}
 use Rattle.root_step.proofs.Topped.{Stands, topped, top-held, top-kept, top-value}
 
 pub record RootHeld (a : List ℕ) (n : ℕ) (new m : List ℕ) (made : Made) : Type 0 where
@@ -63,7 +63,7 @@ module _ (m a : List ℕ) (n d : ℕ) (t new : List ℕ) (w : Held m n t) (small
 
   module _ (h : ℕ) (high : heightOf m ≡ h) (outs : List Kid) (b : Became m a n d (inTree m) h outs new) where
     head-kept : Kept m a
-    head-kept = record { front = front-same m a (b .front); rest = b .rest }
+    head-kept = kept-but-free m a (b .front) (b .rest)
 
     slot-is : rootOf a .slot ≡ s
     slot-is = ap (λ (k : Kid). k .slot) (root-same m a (b .front))
@@ -213,7 +213,7 @@ module _ (m a : List ℕ) (n d : ℕ) (t new : List ℕ) (w : Held m n t) (small
       unfolding rooted
       way-held =
           stood left child g stands-child (small i) (ap (λ (q : ℕ). shrunk a q i) (slot-is (suc g) high (whom ∷ []) b) ∙ way-is)
-          (kept-twice m a left (head-kept (suc g) high (whom ∷ []) b) (record { front = front-same a left (gift .front); rest = gift .rest }))
+          (kept-twice m a left (head-kept (suc g) high (whom ∷ []) b) (kept-but-free a left (gift .front) (gift .rest)))
 
   small-held : (h : ℕ) (high : heightOf m ≡ h) (i : TextInfo) → Shrunk m a n d (inTree m) h (kid s i) new → (0 < h → 1 ≤ length new) → RootHeld a n new m (small i)
   small-held zero high i z f =
@@ -290,8 +290,7 @@ module _ (m a : List ℕ) (n d : ℕ) (t new : List ℕ) (w : Held m n t) (small
 
     up-kept : Kept a up
     up-kept =
-        kept-twice a under up (record { front = front-same a under (took .front); rest = took .rest })
-        (record { front = front-same under up (became-up .front); rest = became-up .rest })
+        kept-twice a under up (kept-but-free a under (took .front) (took .rest)) (kept-but-free under up (became-up .front) (became-up .rest))
 
     -- the second node's slot is one of n, and the tree is low
     second : v ≤ 4294967295

@@ -16,7 +16,7 @@ use Rattle.tree.proofs.Sound.{valid-below}
 use Rattle.tree.proofs.Frame.{Kept as KeptBelow, kept as kept-below}
 use Rattle.note_head.specs.Head.{nOf, rootOf, heightOf, freeOf}
 use Rattle.head_write.specs.Writes.{rootPut, heightPut}
-use Rattle.head_write.proofs.Written.{laid-front, height-set, height-around, height-n, height-root, height-free, root-set, root-around, root-n, root-free}
+use Rattle.head_write.proofs.Written.{laid-front, laid-part, height-set, height-around, height-n, height-root, height-free, root-set, root-around, root-n, root-free}
 use Rattle.memory.specs.Formed.{frees, chained, inTree}
 use Rattle.became.specs.Became.{free, Slotted}
 use Rattle.became.proofs.Chains.{KeptChain, kept-chain}
@@ -137,6 +137,9 @@ module _ (l : List ℕ) (n : ℕ) (k : Kid) (h : ℕ) (t : List ℕ) (w : Stands
         front =
             laid-front 28 (h ∷ []) mid mid-there (omega arith) 8 (omega arith)
             ∙ laid-front 8 (kidBytes k) l there (omega (arith, kid-length k)) 8 (omega arith);
+        middle =
+            laid-part 28 (h ∷ []) mid mid-there (omega arith) 29 32 (omega arith)
+            ∙ laid-part 8 (kidBytes k) l there (omega (arith, kid-length k)) 29 32 (omega (arith, kid-length k));
         rest = height-around h mid mid-there .rest ∙ root-around k l there .rest;
       }
 
