@@ -1,13 +1,16 @@
 -- A search that adds the children up one by one and stops at the one found: what it has not read needs no test, for sums only grow.
 use mathlib.Core.Path.{_≡_, refl, sym, ap, _∙_}
-use mathlib.Core.Bool.{true, false, cond}
+use mathlib.Core.Bool.{true, false}
 use mathlib.Core.List.{List, [], _∷_}
-use Prim.Native.Nat.{ℕ, _+_, _≤_, _<_}
+use Prim.Native.Nat.{ℕ, _+_, _≤_, _<_, min}
 use native.Mathlib.Omega.{arith}
+use lib.Dec.{eqb}
 use lib.ListN.{length, take, drop, getD}
-use lib.Seq.{length-take-le, getD-take}
+use lib.Seq.{length-take-le, getD-take, take-all}
 use borrow.Author.Tests.{le-ltb, ltb-true, leb-true}
-use Rattle.plain.specs.Outcome.{Outcome, Outcome.value, Outcome.refused, past}
+use Rattle.plain.specs.Outcome.{Outcome, Outcome.value, Outcome.refused, Rule, ruled, past}
+use Rattle.plain.proofs.Logic.{cut}
+use Rattle.plain.proofs.Outcome.{rule-applies, rule-passed, one-applies, one-passed, passed, more-refused, more-passed}
 use Rattle.answer.specs.Answers.{refusalNumber, number}
 use Rattle.answer.specs.declared.Refusal.{Refusal}
 use Rattle.answer.specs.declared.Number.{Number}
@@ -16,19 +19,22 @@ use Rattle.text_info.specs.Info.{zeros}
 use Rattle.text_info.specs.declared.TextInfo.{TextInfo}
 use Rattle.text_info.specs.declared.TextSum.{TextSum}
 use Rattle.pool.specs.declared.Kid.{Kid}
-use Rattle.pool.specs.Slot.{regionOf, entries, noKid}
+use Rattle.pool.specs.Slot.{slotStart, regionOf, entries, noKid}
 use Rattle.pool.specs.Calls.{outside, regionStart}
 use Rattle.pool.proofs.Opened.{region-opened}
+use Rattle.pool.proofs.Kids.{entries-length}
 use Rattle.node_children.specs.declared.NodeChildren.{NodeChildren}
 use Rattle.node_children.specs.Kids.{listOf}
+use Rattle.node_children.specs.Calls.{tooLong}
 use Rattle.node_children.proofs.Lists.{kids-of}
-use Rattle.node_children.proofs.Rules.{past-yes, past-no}
+use Rattle.node_children.proofs.Rules.{none-yes, none-no, past-yes, past-no}
 use Rattle.child_search.specs.declared.Found.{Found}
+use Rattle.child_search.specs.declared.Found.the-variants as Found·case
 use Rattle.child_search.specs.declared.Measure.{Measure}
 use Rattle.child_search.specs.declared.Measure.the-variants.{Bytes, Chars, Utf16, Breaks, CharEnds}
-use Rattle.child_search.specs.Sought.{found, plusInfo, sumFrom, total, Within, Plus, stopsAt, mostOf, searchFrom, searched, after, searchedIn}
+use Rattle.child_search.specs.Sought.{found, plusInfo, sumFrom, firstIn, total, Within, Plus, stopsAt, mostOf, searchFrom, foundBy, searched, searchedIn}
 use Rattle.child_search.proofs.Sums.{within-none, within-plus, sum-turn, sum-end, hit, on, last}
-use Rattle.child_search.proofs.Rules.{searched-none, searched-past, searched-done}
+use Rattle.child_search.proofs.Rules.{searched-past, searched-done}
 
 -- ── sums grow ──
 
@@ -121,40 +127,82 @@ module _ (es : List Kid) (sixteen : length es ≡ 16) (n : ℕ) (few : n ≤ 16)
       pub walk-last : at ≤ top → value (i, l) ≡ searched list by at
       walk-last g = found-here (omega (arith, ap (mostOf by) all)) (last (stopsAt by at) ks i l (omega (arith, many)))
 
--- ── the search in a slot, by the answer of `region_start` ──
+-- ── the search in a slot ──
 
-module _ (m : List ℕ) (s n : ℕ) (by : Measure) (at : ℕ) (r : Number) (promise : number r ≡ regionStart m s) where
-  abbrev Answer : Type 0
-  Answer = Outcome (ℕ × TextSum)
+module _ (m : List ℕ) (s n : ℕ) (by : Measure) (at : ℕ) where
+  abbrev ask : List Kid → Rule
+  ask ks = (3, past at (mostOf by (sumFrom zeros ks)))
 
-  abbrev rest : Answer
-  rest = cond (past n 16) (refused 11) (searched (listOf (take n (entries (regionOf m s)))) by at)
+  -- what a list of len children comes to, of which ks are there
+  abbrev sought : ℕ → List Kid → Outcome (ℕ × TextSum)
+  sought len ks = ruled ((12, eqb len 0) ∷ ask ks ∷ tooLong len ∷ []) (foundBy by at ks)
 
-  pub in-refused : (q : Refusal) → r ≡ Number·case.Refused q → refused (refusalNumber q) ≡ searchedIn m s n by at
+  -- the rules but the first, and but the last
+  abbrev later : List Rule
+  later = (2, outside m s) ∷ ask (firstIn m s n) ∷ tooLong n ∷ []
+
+  abbrev first : List Rule
+  first = (12, eqb n 0) ∷ (2, outside m s) ∷ ask (firstIn m s n) ∷ []
+
+  pub in-none : n ≡ 0 → refused 12 ≡ searchedIn m s n by at
   unfolding searchedIn
-  in-refused q e = ap (λ (o : Outcome ℕ). after o rest) (sym (ap number e) ∙ promise)
+  in-none h = sym (rule-applies 12 (eqb n 0) later (foundBy by at (firstIn m s n)) (none-yes n h))
 
-  module _ (a : ℕ) (e : r ≡ Number·case.Is a) where
-    pub in-inside : outside m s ≡ false
-    in-inside = le-ltb _ _ (region-opened r m s a promise e .0)
+  module _ (r : Number) (promise : number r ≡ regionStart m s) where
+    pub in-refused : (q : Refusal) → 0 < n → r ≡ Number·case.Refused q → refused (refusalNumber q) ≡ searchedIn m s n by at
+    unfolding regionStart searchedIn
+    in-refused q h e =
+        sym
+        (rule-passed 12 (eqb n 0) later (foundBy by at (firstIn m s n)) (none-no n h)
+        ∙ more-refused ((2, outside m s) ∷ []) (ask (firstIn m s n) ∷ tooLong n ∷ []) (slotStart s + 128) (foundBy by at (firstIn m s n)) (refusalNumber q) (sym promise ∙ ap number e))
 
-    in-memory : searchedIn m s n by at ≡ rest
+    pub in-inside : (a : ℕ) → r ≡ Number·case.Is a → outside m s ≡ false
+    in-inside a e = le-ltb _ _ (region-opened r m s a promise e .0)
+
+  -- THEOREM: in a slot of the memory, among at most sixteen entries, it is the search in the list of these
+  pub few-is : outside m s ≡ false → n ≤ 16 → searchedIn m s n by at ≡ searched (listOf (firstIn m s n)) by at
+  unfolding searchedIn searched ruled
+  few-is there h =
+      let ks = firstIn m s n in
+      let len = list-len ks ∙ length-take-le n (entries (regionOf m s)) (omega (arith, entries-length (regionOf m s))) in
+      let here : searchedIn m s n by at ≡ sought n ks = rw there in
+      here ∙ ap (λ (k : ℕ). sought k ks) (sym len) ∙ ap (sought (listOf ks .len)) (sym (kids-of ks))
+
+-- what was found among the entries that there are, and how many were asked for
+module _ (m : List ℕ) (s n : ℕ) (by : Measure) (at k : ℕ) (held : k ≡ min n 16) (some : 0 < n) (there : outside m s ≡ false) (f : Found)
+    (promise : found f ≡ searched (listOf (firstIn m s k)) by at)
+  where
+    abbrev v : ℕ × TextSum
+    v = foundBy by at (firstIn m s n)
+
+    same : firstIn m s k ≡ firstIn m s n
+    same = cut n 16 (λ h. let z : k ≡ n = omega arith in ap (firstIn m s) z) (λ h. let z : k ≡ 16 = omega arith in ap (firstIn m s) z ∙ all 16 (omega arith) ∙ sym (all n h))
+      where
+        all : (j : ℕ) → 16 ≤ j → firstIn m s j ≡ entries (regionOf m s)
+        all j h = take-all j (entries (regionOf m s)) (omega (arith, entries-length (regionOf m s)))
+
+    -- whether the list is too long is not asked yet
+    early : found f ≡ ruled (first m s n by at) v
+    unfolding searchedIn ruled
+    early =
+        promise
+        ∙ sym (few-is m s k by at there (omega arith))
+        ∙ rw (past-no k 16 (omega arith), none-no k (omega arith), none-no n some, same)
+
+    pub in-past : (q : Refusal) → f ≡ Found·case.Refused q → found f ≡ searchedIn m s n by at
     unfolding searchedIn
-    in-memory = ap (λ (o : Outcome ℕ). after o rest) (sym promise ∙ ap number e)
+    in-past q e = ap found e ∙ sym (more-refused (first m s n by at) (tooLong n ∷ []) v v (refusalNumber q) (sym early ∙ ap found e))
 
-    pub in-long : 16 < n → refused 11 ≡ searchedIn m s n by at
-    in-long h = sym (in-memory ∙ rw (past-yes n 16 h))
+    module _ (i : ℕ) (l : TextSum) (e : f ≡ Found·case.At i l) where
+      rest : searchedIn m s n by at ≡ ruled (tooLong n ∷ []) v
+      unfolding searchedIn
+      rest = more-passed (first m s n by at) (tooLong n ∷ []) v (i, l) v (sym early ∙ ap found e)
 
-    few-is : n ≤ 16 → searchedIn m s n by at ≡ searched (listOf (take n (entries (regionOf m s)))) by at
-    few-is h = in-memory ∙ rw (past-no n 16 h)
+      pub in-long : 16 < n → refused 11 ≡ searchedIn m s n by at
+      in-long h = sym (rest ∙ one-applies 11 (past n 16) v (past-yes n 16 h))
 
-    pub in-few : (f : Found) → n ≤ 16 → found f ≡ searched (listOf (take n (entries (regionOf m s)))) by at → found f ≡ searchedIn m s n by at
-    in-few f h g = g ∙ sym (few-is h)
-
-    pub few-in : (f : Found) → n ≤ 16 → found f ≡ searchedIn m s n by at → found f ≡ searched (listOf (take n (entries (regionOf m s)))) by at
-    few-in f h g = g ∙ few-is h
-
-    pub in-none : n ≡ 0 → refused 12 ≡ searchedIn m s n by at
-    in-none h =
-        searched-none (listOf []) by at (list-len [])
-        ∙ sym (few-is (omega arith) ∙ ap (λ (k : ℕ). searched (listOf (take k (entries (regionOf m s)))) by at) h)
+      pub in-few : n ≤ 16 → found f ≡ searchedIn m s n by at
+      in-few h =
+          ap found e
+          ∙ ap (λ (x : ℕ × TextSum). value x) (passed (first m s n by at) v (i, l) (sym early ∙ ap found e) .1)
+          ∙ sym (rest ∙ one-passed 11 (past n 16) v (past-no n 16 h))

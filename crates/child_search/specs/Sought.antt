@@ -3,7 +3,7 @@ use mathlib.Core.Path.{_≡_}
 use mathlib.Core.Bool.{Bool, true, false, _||_, cond}
 use mathlib.Core.List.{List, [], _∷_}
 use Prim.Native.Nat.{ℕ, _+_, _*_, _≤_, _<_}
-use lib.Dec.{ltb, leb}
+use lib.Dec.{ltb, leb, eqb}
 use lib.ListN.{take, drop}
 use Rattle.plain.specs.Outcome.{Outcome, Outcome.value, Outcome.refused, ruled, past}
 use Rattle.answer.specs.Answers.{refusalNumber}
@@ -12,7 +12,7 @@ use Rattle.text_info.specs.declared.TextInfo.{TextInfo}
 use Rattle.text_info.specs.declared.TextSum.{TextSum}
 use Rattle.pool.specs.declared.Kid.{Kid}
 use Rattle.pool.specs.Slot.{regionOf, entries}
-use Rattle.pool.specs.Calls.{regionStart}
+use Rattle.pool.specs.Calls.{outside}
 use Rattle.node_children.specs.declared.NodeChildren.{NodeChildren}
 use Rattle.child_search.specs.declared.Sum.{Sum}
 use Rattle.child_search.specs.declared.Sum.the-variants as Sum·case
@@ -24,7 +24,7 @@ use Rattle.child_search.specs.declared.FoundRange.{FoundRange}
 use Rattle.child_search.specs.declared.FoundRange.the-variants as FoundRange·case
 use Rattle.child_search.specs.declared.Measure.{Measure}
 use Rattle.child_search.specs.declared.Measure.the-variants.{Bytes, Chars, Utf16, Breaks, CharEnds}
-use Rattle.node_children.specs.Kids.{kids, listOf}
+use Rattle.node_children.specs.Kids.{kids}
 use Rattle.node_children.specs.Calls.{noChild, tooLong}
 
 -- ── the answers on paper ──
@@ -61,6 +61,10 @@ plusInfo s t =
 unfoldable pub sumFrom : TextSum → List Kid → TextSum
 sumFrom s [] = s
 sumFrom s (k ∷ ks) = sumFrom (plusInfo s (k .info)) ks
+
+-- the first n entries of slot s; a slot has sixteen
+abbrev pub firstIn : List ℕ → ℕ → ℕ → List Kid
+firstIn m s n = take n (entries (regionOf m s))
 
 -- the counts of all children of a list
 abbrev pub total : NodeChildren → TextSum
@@ -122,15 +126,11 @@ unfoldable pub searched : NodeChildren → Measure → ℕ → Outcome (ℕ × T
 unfolding ruled sumFrom searchFrom
 searched c m at = ruled (noChild c ∷ (3, past at (mostOf m (total c))) ∷ tooLong (c .len) ∷ []) (foundBy m at (kids c))
 
--- an answer behind a call that must be accepted
-abbrev pub after : {A B : Type 0} → Outcome A → Outcome B → Outcome B
-after (value a) o = o
-after (refused n) o = refused n
-
 -- among the first n entries of slot s
 unfoldable pub searchedIn : List ℕ → ℕ → ℕ → Measure → ℕ → Outcome (ℕ × TextSum)
-unfolding searched listOf
-searchedIn m s n by at = after (regionStart m s) (cond (past n 16) (refused 11) (searched (listOf (take n (entries (regionOf m s)))) by at))
+unfolding ruled sumFrom searchFrom
+searchedIn m s n by at =
+    ruled ((12, eqb n 0) ∷ (2, outside m s) ∷ (3, past at (mostOf by (sumFrom zeros (firstIn m s n)))) ∷ tooLong n ∷ []) (foundBy by at (firstIn m s n))
 
 -- a child and the chars on its left
 abbrev pub charsOf : ℕ × TextSum → ℕ × ℕ

@@ -103,8 +103,8 @@ fn held(len: usize) -> usize
     len
 }
 
-// The counts of all children: of a list that is too long, of its 16 entries.
-fn sum_of(list: NodeChildren) -> TextSum
+// The counts of all children: of a list that is too long, of its 16 entries. The promise adds how large they can be.
+pub fn sum_of(list: NodeChildren) -> TextSum
     ensures { λ r. ⌜ (r ≡ total list) × Within r 16 ⌝ }
 {
     let n = held(list.len);
@@ -205,20 +205,24 @@ pub fn search_by(list: NodeChildren, m: Measure, at: usize) -> Found
     Found::At(spot.idx, left)
 }
 
-// The same among the first n entries of a slot, where they lie.
+// The same among the first n entries of a slot, where they lie. Above 16 an index past the end of the sixteen entries is refused first.
 pub fn search_in(m: &[u8], slot: usize, n: usize, by: Measure, at: usize) -> Found
     ensures { λ r. ⌜ (found r ≡ searchedIn (now (m .entry)) slot n by at) × Small r ⌝ }
 {
+    if n == 0 {
+        return Found::Refused(Refusal::Side);
+    }
     match region_start(m, slot) {
         Number::Refused(r) => Found::Refused(r),
         Number::Is(_) => {
-            if n == 0 {
-                return Found::Refused(Refusal::Side);
-            }
+            let found = seek_in(m, slot, held(n), by, at as u64);
+            let Found::At(_, _) = found else {
+                return found;
+            };
             if MAX_LEN < n {
                 return Found::Refused(Refusal::Size);
             }
-            seek_in(m, slot, n, by, at as u64)
+            found
         }
     }
 }

@@ -6,8 +6,8 @@ use Prim.Native.Nat.{ℕ, _+_, _≤_, _<_}
 use native.Mathlib.Omega.{arith}
 use lib.ListN.{length, take, drop, length-append, length-take, length-drop}
 use borrow.Author.Tests.{lt-ltb, le-ltb}
-use Rattle.plain.specs.Outcome.{Outcome, Outcome.value, Outcome.refused, past, kept, mapped}
-use Rattle.plain.proofs.Outcome.{rule-passed, one-applies, one-passed, accepted, all-accepted}
+use Rattle.plain.specs.Outcome.{Outcome, Outcome.value, Outcome.refused, kept, mapped}
+use Rattle.plain.proofs.Outcome.{one-applies, one-passed, accepted, all-accepted}
 use Rattle.answer.specs.Answers.{refusalNumber, number}
 use Rattle.answer.specs.declared.Refusal.{Refusal}
 use Rattle.answer.specs.declared.Number.{Number}
@@ -32,7 +32,7 @@ use Rattle.node_children.proofs.Rules.{inserted-done, insert-split-done}
 use Rattle.nodes.specs.Node.{tooWide, narrowed, totalOf, listPut, Fitting}
 use Rattle.nodes.specs.Calls.{stored, listCounted, Fitted}
 use Rattle.nodes.proofs.Heads.{inside, one-refused}
-use Rattle.nodes.proofs.Rules.{stored-is}
+use Rattle.nodes.proofs.Rules.{few-counted, stored-is}
 use Rattle.nodes.proofs.Accepted.{list-counted-only}
 use Rattle.nodes.proofs.Put.{list-size}
 use Rattle.edits.specs.declared.Edit.{Edit}
@@ -51,10 +51,7 @@ use Rattle.list_step.proofs.Rules.{step-done, step-refused, step-as, li
 module _ (c : NodeChildren) (few : c .len ≤ 16) (r : Info) (p : info r ≡ listCounted c) where
   -- the counts were refused, and so were they too wide
   pub wide : (q : Refusal) → r ≡ Info·case.Refused q → (tooWide (totalOf (kids c)) ≡ true) × (refusalNumber q ≡ 2)
-  unfolding listCounted
-  wide q e =
-      one-refused 2 (tooWide (totalOf (kids c))) (narrowed (totalOf (kids c))) (refusalNumber q)
-      (sym (ap info e) ∙ p ∙ rule-passed 11 (past (c .len) 16) ((2, tooWide (totalOf (kids c))) ∷ []) (narrowed (totalOf (kids c))) (le-ltb 16 (c .len) few))
+  wide q e = one-refused 2 (tooWide (totalOf (kids c))) (narrowed (totalOf (kids c))) (refusalNumber q) (sym (ap info e) ∙ p ∙ few-counted c few)
 
   pub narrow : (i : TextInfo) → r ≡ Info·case.Is i → (tooWide (totalOf (kids c)) ≡ false) × (i ≡ narrowed (totalOf (kids c)))
   narrow i e = let o = list-counted-only c i (sym p ∙ ap info e) in (o .1, o .2)

@@ -7,10 +7,10 @@ use native.Mathlib.Omega.{arith}
 use lib.Dec.{leb}
 use lib.ListN.{length, take, drop, getD, replicate, length-append, length-take, length-drop, List·getD-append}
 use lib.Seq.{getD-take, getD-drop}
-use borrow.Author.Tests.{le-ltb, le-leb, lt-leb}
-use Rattle.plain.specs.Outcome.{Outcome, Outcome.value, Outcome.refused, ruled, past, kept, mapped}
+use borrow.Author.Tests.{le-leb, lt-leb}
+use Rattle.plain.specs.Outcome.{Outcome, Outcome.value, Outcome.refused, ruled, kept, mapped}
 use Rattle.plain.proofs.Logic.{cut}
-use Rattle.plain.proofs.Outcome.{rule-passed, one-applies, one-passed}
+use Rattle.plain.proofs.Outcome.{one-applies, one-passed}
 use Rattle.answer.specs.Answers.{refusalNumber, truth}
 use Rattle.answer.specs.declared.Refusal.{Refusal}
 use Rattle.answer.specs.declared.Truth.{Truth}
@@ -36,7 +36,7 @@ use Rattle.nodes.specs.Node.{isLeaf, isList, textOf, childrenOf, tooWide, narro
 use Rattle.nodes.specs.Calls.{loaded, stored, Fitted, listCounted}
 use Rattle.nodes.proofs.Heads.{one-refused, inside, not-outside, list-says, leaf-no-list, list-no-leaf}
 use Rattle.nodes.proofs.Put.{list-size}
-use Rattle.nodes.proofs.Rules.{loaded-is, stored-is}
+use Rattle.nodes.proofs.Rules.{few-counted, loaded-is, stored-is}
 use Rattle.nodes.proofs.Accepted.{list-counted-only, store-accepted}
 use Rattle.child_info.specs.Leaves.{TwoLeaves, Alike, Alike.leaves, Alike.lists}
 use Rattle.merge.specs.Join.{joinedText, joinedKids, shared, joined, Joined, AllFit}
@@ -73,11 +73,7 @@ module _ (m : List ℕ) (a : ℕ) (list : isList m a ≡ true) where
 
 module _ (c : NodeChildren) (h : c .len ≤ 16) (i : Info) (p : info i ≡ listCounted c) where
   pub counted-wide : (q : Refusal) → i ≡ Info·case.Refused q → (tooWide (totalOf (kids c)) ≡ true) × (refusalNumber q ≡ 2)
-  unfolding listCounted
-  counted-wide q e =
-      let t = tooWide (totalOf (kids c)) in
-      let v = narrowed (totalOf (kids c)) in
-      one-refused 2 t v (refusalNumber q) (sym (ap info e) ∙ p ∙ rule-passed 11 (past (c .len) 16) ((2, t) ∷ []) v (le-ltb 16 (c .len) h))
+  counted-wide q e = one-refused 2 (tooWide (totalOf (kids c))) (narrowed (totalOf (kids c))) (refusalNumber q) (sym (ap info e) ∙ p ∙ few-counted c h)
 
   pub counted-fits : (x : TextInfo) → i ≡ Info·case.Is x → tooWide (totalOf (kids c)) ≡ false
   counted-fits x e = list-counted-only c x (sym p ∙ ap info e) .1

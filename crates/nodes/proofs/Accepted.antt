@@ -12,7 +12,7 @@ use Rattle.plain.specs.Place.{isBoundary}
 use Rattle.plain.specs.Edit.{replaced, putIn}
 use Rattle.plain.specs.Outcome.{Outcome, Outcome.value, Outcome.refused, ruled, past}
 use Rattle.plain.proofs.Logic.{or-none}
-use Rattle.plain.proofs.Outcome.{rule-passed, one-passed, accepted, all-accepted}
+use Rattle.plain.proofs.Outcome.{rule-passed, one-passed, accepted, all-accepted, passed}
 use Rattle.plain.proofs.Place.{boundary-0, boundary-end}
 use Rattle.answer.specs.declared.Refusal.{Refusal}
 use Rattle.answer.specs.declared.Number.the-variants as Number·case
@@ -39,7 +39,7 @@ use Rattle.nodes.specs.Calls.{loaded, stored, listCounted, counted, leaf
 use Rattle.nodes.proofs.Heads.{inside, not-outside, leaf-says, not-so}
 use Rattle.nodes.proofs.Copied.{edit-is, edit-none, halve-is, halve-same, halve-outside, halve-none}
 use Rattle.nodes.proofs.Put.{leaf-size, leaf-put, leaf-text, leaf-others, list-put, list-children, same}
-use Rattle.nodes.proofs.Rules.{loaded-is}
+use Rattle.nodes.proofs.Rules.{few-counted, loaded-is}
 
 -- ── lists and counts ──
 
@@ -70,18 +70,13 @@ module _ (m : List ℕ) (s : ℕ) where
 -- THEOREM: a list is counted where it has at most 16 children and counts that fit, and only there
 module _ (c : NodeChildren) where
   pub list-counted-is : c .len ≤ 16 → tooWide (totalOf (kids c)) ≡ false → listCounted c ≡ value (narrowed (totalOf (kids c)))
-  unfolding listCounted
-  list-counted-is h e =
-      let v = narrowed (totalOf (kids c)) in
-      rule-passed 11 (past (c .len) 16) ((2, tooWide (totalOf (kids c))) ∷ []) v (le-ltb 16 (c .len) h) ∙ one-passed 2 (tooWide (totalOf (kids c))) v e
+  list-counted-is h e = few-counted c h ∙ one-passed 2 (tooWide (totalOf (kids c))) (narrowed (totalOf (kids c))) e
 
   pub list-counted-only : (i : TextInfo) → listCounted c ≡ value i → (c .len ≤ 16) × (tooWide (totalOf (kids c)) ≡ false) × (i ≡ narrowed (totalOf (kids c)))
   unfolding listCounted
   list-counted-only i e =
-      let v = narrowed (totalOf (kids c)) in
-      let a = accepted 11 (past (c .len) 16) ((2, tooWide (totalOf (kids c))) ∷ []) v i e in
-      let b = accepted 2 (tooWide (totalOf (kids c))) [] v i (a .1) in
-      (ltb-false 16 (c .len) (a .0), b .0, sym (all-accepted v i (b .1)))
+      let w = passed ((2, tooWide (totalOf (kids c))) ∷ tooLong (c .len) ∷ []) (narrowed (totalOf (kids c))) i e in
+      (ltb-false 16 (c .len) (w .0 .1 .0), w .0 .0, w .1)
 
 -- ── a list stored ──
 

@@ -9,12 +9,11 @@ use lib.ListN.{length, take, drop, set, getD, length-take, length-drop}
 use lib.Seq.{length-take-le, getD-take, take-suc, drop-cons}
 use borrow.Author.Tests.{lt-ltb, le-ltb}
 use Rattle.plain.specs.Utf8.{validUtf8, decode}
-use Rattle.plain.specs.Outcome.{Outcome, Outcome.value, Outcome.refused, ruled, past, kept}
+use Rattle.plain.specs.Outcome.{Outcome, Outcome.value, Outcome.refused, Rule, ruled, past, kept}
 use Rattle.plain.proofs.Logic.{cut, or-none}
-use Rattle.plain.proofs.Outcome.{rule-applies, rule-passed, one-applies, one-passed, accepted, all-accepted}
+use Rattle.plain.proofs.Outcome.{rule-applies, rule-passed, one-applies, one-passed, passed, more-refused, more-passed}
 use Rattle.answer.specs.Answers.{refusalNumber}
 use Rattle.answer.specs.declared.Refusal.{Refusal}
-use Rattle.answer.specs.declared.Number.the-variants as Number·case
 use Rattle.answer.specs.declared.Verdict.{Verdict}
 use Rattle.answer.specs.declared.Verdict.the-variants as Verdict·case
 use Rattle.leaf_bytes.specs.Leaf.{leafOf}
@@ -23,9 +22,10 @@ use Rattle.text_info.specs.Info.{info, infoOf, leafInfo}
 use Rattle.text_info.specs.declared.TextInfo.{TextInfo}
 use Rattle.text_info.specs.declared.TextSum.{TextSum}
 use Rattle.text_info.specs.declared.Info.{Info}
+use Rattle.text_info.specs.declared.Info.the-variants as Info·case
 use Rattle.pool.specs.declared.Kid.{Kid}
 use Rattle.pool.specs.Slot.{slotStart, lenOf, regionOf, entries, noKid, Fits, headPut, kidPut}
-use Rattle.pool.specs.Calls.{outside, noEntry, regionStart, headSet, kidSet, Wrote}
+use Rattle.pool.specs.Calls.{outside, noEntry, headSet, kidSet, Wrote}
 use Rattle.pool.proofs.Opened.{head-wrote}
 use Rattle.pool.proofs.Rules.{wrote-done}
 use Rattle.pool.proofs.Slots.{head-size}
@@ -33,18 +33,16 @@ use Rattle.node_children.specs.declared.NodeChildren.{NodeChildren}
 use Rattle.node_children.specs.declared.Listed.{Listed}
 use Rattle.child_search.specs.declared.Found.{Found}
 use Rattle.child_search.specs.declared.Measure.{Measure}
-use Rattle.child_search.specs.declared.Sum.{Sum}
-use Rattle.child_search.specs.declared.Sum.the-variants as Sum·case
 use Rattle.node_children.specs.Kids.{kids, listOf, Listing}
 use Rattle.node_children.specs.Calls.{tooLong}
-use Rattle.child_search.specs.Sought.{sum, found, sumFrom, combined, searched, searchedIn}
+use Rattle.child_search.specs.Sought.{found, searched, searchedIn}
 use Rattle.child_search.proofs.Reading.{searched-child}
-use Rattle.child_search.proofs.Walk.{few-in}
+use Rattle.child_search.proofs.Walk.{few-is}
 use Rattle.node_children.proofs.Lists.{kids-of, is-kids, put-holds}
 use Rattle.node_children.proofs.Rules.{listing-done}
 use Rattle.nodes.specs.Node.{isLeaf, isList, childrenOf, textOf, tooWide, narrowed, totalOf, countsOf, lost, ill, kidsPut, listPut, Fitting}
 use Rattle.nodes.specs.Calls.{loaded, listSearched, stored, Fitted, listCounted, counted}
-use Rattle.nodes.proofs.Heads.{one-refused, leaf-no-list, list-no-leaf, list-says, not-outside}
+use Rattle.nodes.proofs.Heads.{leaf-no-list, list-no-leaf, list-says, not-outside}
 
 -- ── a sum in 32 bits ──
 
@@ -75,22 +73,36 @@ module _ (s : TextSum) where
 
 -- ── the counts of a list ──
 
-module _ (r : Sum) (c : NodeChildren) (promise : sum r ≡ combined c) where
-  pub sum-refused : (q : Refusal) → r ≡ Sum·case.Refused q → refused (refusalNumber q) ≡ listCounted c
-  unfolding combined listCounted
-  sum-refused q e =
-      let o = one-refused 11 (past (c .len) 16) (sumFrom _ (kids c)) (refusalNumber q) (sym (ap sum e) ∙ promise) in
-      let z : _≡_ {A = Outcome TextInfo} (refused (refusalNumber q)) (refused 11) = ap (λ (n : ℕ). refused n) (o .1) in
-      z ∙ sym (rule-applies 11 (past (c .len) 16) ((2, tooWide (totalOf (kids c))) ∷ []) (narrowed (totalOf (kids c))) (o .0))
+-- of at most sixteen children: 2 alone
+pub few-counted : (c : NodeChildren) → c .len ≤ 16 → listCounted c ≡ ruled ((2, tooWide (totalOf (kids c))) ∷ []) (narrowed (totalOf (kids c)))
+unfolding listCounted ruled
+few-counted c h = rw (le-ltb 16 (c .len) h)
 
-  pub sum-is : (s : TextSum) (i : Info) → r ≡ Sum·case.Is s → info i ≡ ruled ((2, tooWide s) ∷ []) (narrowed s) → info i ≡ listCounted c
-  unfolding combined listCounted
-  sum-is s i e p =
-      let a = accepted 11 (past (c .len) 16) [] (sumFrom _ (kids c)) s (sym promise ∙ ap sum e) in
-      let z : s ≡ totalOf (kids c) = sym (all-accepted (sumFrom _ (kids c)) s (a .1)) in
-      p
-      ∙ ap (λ (t : TextSum). ruled ((2, tooWide t) ∷ []) (narrowed t)) z
-      ∙ sym (rule-passed 11 (past (c .len) 16) ((2, tooWide (totalOf (kids c))) ∷ []) (narrowed (totalOf (kids c))) (a .0))
+module _ (c : NodeChildren) (s : TextSum) (all : s ≡ totalOf (kids c)) (i : Info) (promise : info i ≡ ruled ((2, tooWide s) ∷ []) (narrowed s)) where
+  abbrev wide : List Rule
+  wide = (2, tooWide (totalOf (kids c))) ∷ []
+
+  abbrev v : TextInfo
+  v = narrowed (totalOf (kids c))
+
+  early : info i ≡ ruled wide v
+  early = promise ∙ ap (λ (t : TextSum). ruled ((2, tooWide t) ∷ []) (narrowed t)) all
+
+  pub sum-refused : (q : Refusal) → i ≡ Info·case.Refused q → info i ≡ listCounted c
+  unfolding listCounted
+  sum-refused q e = ap info e ∙ sym (more-refused wide (tooLong (c .len) ∷ []) v v (refusalNumber q) (sym early ∙ ap info e))
+
+  module _ (t : TextInfo) (e : i ≡ Info·case.Is t) where
+    rest : listCounted c ≡ ruled (tooLong (c .len) ∷ []) v
+    unfolding listCounted
+    rest = more-passed wide (tooLong (c .len) ∷ []) v t v (sym early ∙ ap info e)
+
+    pub sum-long : 16 < c .len → refused 11 ≡ listCounted c
+    sum-long h = sym (rest ∙ one-applies 11 (past (c .len) 16) v (lt-ltb 16 (c .len) h))
+
+    pub sum-is : c .len ≤ 16 → info i ≡ listCounted c
+    sum-is h =
+        ap info e ∙ ap (λ (x : TextInfo). value x) (passed wide v t (sym early ∙ ap info e) .1) ∙ sym (rest ∙ one-passed 11 (past (c .len) 16) v (le-ltb 16 (c .len) h))
 
 -- ── a list read ──
 
@@ -135,14 +147,11 @@ module _ (m : List ℕ) (s : ℕ) where
     unfolding listSearched
     search-not e = rw e
 
-    region-is : slotStart s + 640 ≤ length m → value (slotStart s + 128) ≡ regionStart m s
-    unfolding regionStart
-    region-is h = sym (one-passed 2 (outside m s) (slotStart s + 128) (not-outside m s h))
-
     pub search-done : (n : ℕ) (f : Found) → isList m s ≡ true → lenOf m s ≡ n → found f ≡ searchedIn m s n by at → found f ≡ listSearched m s by at
     search-done n f e z p =
         let l = list-says m s e in
-        few-in m s n by at (Number·case.Is (slotStart s + 128)) (region-is (l .0)) (slotStart s + 128) refl f (omega (arith, l .2)) p
+        p
+        ∙ few-is m s n by at (not-outside m s (l .0)) (omega (arith, l .2))
         ∙ ap (λ (k : ℕ). searched (listOf (take k (entries (regionOf m s)))) by at) (sym z)
         ∙ sym (search-is e)
 
@@ -174,11 +183,8 @@ module _ (m : List ℕ) (s : ℕ) where
       ∙ sym (rw (e, leaf-no-list m s e))
 
   short : (ks : List Kid) → length ks ≤ 16 → listCounted (listOf ks) ≡ ruled ((2, tooWide (totalOf ks)) ∷ []) (narrowed (totalOf ks))
-  unfolding listOf listCounted
-  short ks h =
-      let k = kids (listOf ks) in
-      rule-passed 11 (past (length ks) 16) ((2, tooWide (totalOf k)) ∷ []) (narrowed (totalOf k)) (le-ltb 16 (length ks) h)
-      ∙ ap (λ (xs : List Kid). ruled ((2, tooWide (totalOf xs)) ∷ []) (narrowed (totalOf xs))) (kids-of ks)
+  unfolding listOf
+  short ks h = few-counted (listOf ks) h ∙ ap (λ (xs : List Kid). ruled ((2, tooWide (totalOf xs)) ∷ []) (narrowed (totalOf xs))) (kids-of ks)
 
   pub counted-list : (n : ℕ) (l : NodeChildren) (i : Info) → isList m s ≡ true → lenOf m s ≡ n → n ≤ 16 → l ≡ listOf (take n (entries (regionOf m s))) → info i ≡ listCounted l → info i ≡ counted m s
   unfolding listCounted counted lost ill countsOf ruled

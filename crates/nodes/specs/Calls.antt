@@ -45,10 +45,10 @@ abbrev pub Fitted : Verdict → List Kid → Type 0
 Fitted Verdict·case.Accepted ks = Fitting ks
 Fitted (Verdict·case.Refused q) ks = Unit {0}
 
--- the counts of a list's children: 11 comes before 2, for a list that is too long has no sum
+-- the counts of a list's children: of a list that is too long, of the sixteen that are there
 unfoldable pub listCounted : NodeChildren → Outcome TextInfo
 unfolding ruled
-listCounted c = ruled (tooLong (c .len) ∷ (2, tooWide (totalOf (kids c))) ∷ []) (narrowed (totalOf (kids c)))
+listCounted c = ruled ((2, tooWide (totalOf (kids c))) ∷ tooLong (c .len) ∷ []) (narrowed (totalOf (kids c)))
 
 -- the counts of a node
 unfoldable pub counted : List ℕ → ℕ → Outcome TextInfo

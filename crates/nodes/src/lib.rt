@@ -6,8 +6,8 @@ use answer::Refusal;
 use answer::Verdict;
 use child_search::Found;
 use child_search::Measure;
-use child_search::Sum;
 use child_search::search_in;
+use child_search::sum_of;
 use node_children::Listed;
 use node_children::NodeChildren;
 use pool::Entry;
@@ -146,10 +146,14 @@ pub fn narrow(s: TextSum) -> Info
 pub fn list_info(list: NodeChildren) -> Info
     ensures { λ r. ⌜ info r ≡ listCounted list ⌝ }
 {
-    match child_search::combined_info(list) {
-        Sum::Refused(r) => Info::Refused(r),
-        Sum::Is(s) => narrow(s),
+    let all = narrow(sum_of(list));
+    let Info::Is(_) = all else {
+        return all;
+    };
+    if MAX_CHILDREN < list.len {
+        return Info::Refused(Refusal::Size);
     }
+    all
 }
 
 // The counts of the text in the first n bytes of a slot's region.

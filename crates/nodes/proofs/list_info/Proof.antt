@@ -1,28 +1,40 @@
--- `list_info` meets its contract: the sum refused, or narrowed.
+-- `list_info` meets its contract: the sum of the entries that are there, and then whether they are too many.
 use borrow.Author.Needs.{needs}
-use Rattle.nodes.proofs.Rules.{sum-refused, sum-is}
+use Rattle.nodes.proofs.Rules.{sum-refused, sum-long, sum-is}
 use Rattle.nodes.proofs.list_info.Statement.{statement}
 use Rattle.nodes.proofs.list_info.Tie as tie
 
-combined-info-requires : tie.Need-combined-info-requires
-combined-info-requires c κs = search needs
-
-enum-known-r : tie.Need-enum-known-r
-enum-known-r c = search needs
-
-enum-known-s : tie.Need-enum-known-s
-enum-known-s c = search needs
+sum-of-requires : tie.Need-sum-of-requires
+sum-of-requires c κs = search needs
 
 narrow-requires : tie.Need-narrow-requires
 narrow-requires c κs = search needs
 
+enum-told : tie.Need-enum-told
+enum-told c = search needs
+
+enum-told-2 : tie.Need-enum-told-2
+enum-told-2 c = search needs
+
 returns : tie.Need-returns
-returns c = sum-refused (c .before .before .before .combined-info .result) (c .before .before .before .before .args .list) (c .before .before .before .combined-info .ensures) _ (c .before .r .given .1)
+returns c =
+    let i = c .before .before .narrow in
+    let s = c .before .before .before .sum-of in
+    sum-refused (c .before .before .before .before .args .list) (s .result) (s .ensures .0) (i .result) (i .ensures) _ (c .enum-told2 .given .1)
 
 returns-2 : tie.Need-returns-2
-returns-2 c = sum-is (c .before .before .before .before .combined-info .result) (c .before .before .before .before .before .args .list) (c .before .before .before .before .combined-info .ensures) _ (c .narrow .result) (c .before .before .s .given .1) (c .narrow .ensures)
+returns-2 c =
+    let i = c .before .before .before .before .narrow in
+    let s = c .before .before .before .before .before .sum-of in
+    sum-long (c .before .before .before .before .before .before .args .list) (s .result) (s .ensures .0) (i .result) (i .ensures) _ (c .before .before .enum-told .given .1) (c .if1 .taken)
+
+returns-3 : tie.Need-returns-3
+returns-3 c =
+    let i = c .before .before .before .before .narrow in
+    let s = c .before .before .before .before .before .sum-of in
+    sum-is (c .before .before .before .before .before .before .args .list) (s .result) (s .ensures .0) (i .result) (i .ensures) _ (c .before .before .enum-told .given .1) (c .if1 .left)
 
 pub list-info-spec : {M : Type 1} → statement M
 list-info-spec =
     tie.close
-    (tie.spec combined-info-requires enum-known-r enum-known-s narrow-requires returns returns-2)
+    (tie.spec sum-of-requires narrow-requires enum-told enum-told-2 returns returns-2 returns-3)

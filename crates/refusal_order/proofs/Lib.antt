@@ -1,0 +1,6 @@
+pub mod Given
+pub mod Breaks
+pub mod Leaves
+pub mod Lists
+pub mod Nodes
+pub mod Children
