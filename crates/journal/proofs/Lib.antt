@@ -1,3 +1,4 @@
+pub mod Played
 pub mod Listed
 pub mod Turns
 pub mod Runs

@@ -1,35 +1,75 @@
 -- The end of a listing put behind its fields, a turn with its buffer, and what refuses one.
-use mathlib.Core.Path.{_≡_, refl, sym, ap, _∙_}
+use mathlib.Core.Path.{_≡_, refl, sym, ap, subst, _∙_}
 use mathlib.Core.Bool.{Bool, true, false, not, _||_, cond, false≢true}
-use mathlib.Core.List.{List, [], _++_, append-nil}
+use mathlib.Core.List.{List, [], _∷_, _++_, append-assoc, append-nil}
 use mathlib.Core.Logic.{_⊎_, inl, inr}
 use Prim.Native.Nat.{ℕ, _+_, _-_, _^_, _≤_, _<_}
 use native.Mathlib.Omega.{arith}
-use lib.ListN.{length, take, drop}
-use lib.Seq.{length-take-le}
+use lib.ListN.{length, take, drop, take-append-drop}
+use lib.Seq.{length-take-le, take-length, take-take}
 use borrow.Author.Tests.{lt-ltb, le-ltb}
 use Rattle.plain.specs.Outcome.{Outcome, Outcome.value, Outcome.refused, ruled, past}
+use Rattle.plain.proofs.Logic.{cut}
+use Rattle.plain_calls.specs.Calls.{Call}
 use Rattle.leaf_bytes.proofs.Laid.{part-is}
 use Rattle.memory.specs.Formed.{wellFormed, noteOf}
-use Rattle.plain_journal.specs.Fields.{isWhole}
-use Rattle.plain_journal.specs.Listing.{ending}
+use Rattle.plain_journal.specs.Fields.{isWhole, fieldsOf}
+use Rattle.plain_journal.specs.Replay.{codes}
+use Rattle.plain_journal.specs.Listing.{fieldLine, fieldLines, ending}
+use Rattle.plain_journal.proofs.Framing.{fields-none, fields-cut}
+use Rattle.journal_fields.specs.declared.Done.the-variants as Done·case
 use Rattle.journal.specs.declared.fields.Fed.{Fed}
 use Rattle.journal.specs.declared.Served.{Served}
 use Rattle.journal.specs.declared.State.{State}
-use Rattle.journal.specs.Turns.{toCome, leftOf, Starved, Feeds, Serves, Advances, turnRules}
+use Rattle.journal.specs.Turns.{Starved, Played, Replays, linesOf, Feeds, Finishes, Serves, takenBy, Advances, turnRules}
+use Rattle.journal.proofs.Played.{replays}
+
+-- ── what is left where the input has ended ──
+
+module _ (m s : List ℕ) (k : ℕ) where
+  -- nothing
+  nil : length s ≡ 0 → fieldsOf s ≡ []
+  nil e = fields-none s e
+
+  pub lines-nil : length s ≡ 0 → linesOf m k s ≡ []
+  unfolding codes fieldLines
+  lines-nil e = ap (λ (fs : List (Outcome Call)). fieldLines k (codes (noteOf m) fs)) (nil e)
+
+  -- a cut field
+  module _ (some : length s ≡ 0 → ⊥) (w : isWhole s ≡ false) where
+    pub lines-cut : linesOf m k s ≡ fieldLine k 10
+    unfolding codes fieldLines
+    lines-cut = ap (λ (fs : List (Outcome Call)). fieldLines k (codes (noteOf m) fs)) (fields-cut s some w) ∙ append-nil (fieldLine k 10)
+
+    pub one-cut : length (fieldsOf s) ≡ 1
+    one-cut = ap length (fields-cut s some w)
+
+  -- either changes no byte
+  pub played-rest : isWhole s ≡ false → Played m (fieldsOf s) m
+  played-rest w =
+      cut (length s) 1
+      (λ l. subst (λ (fs : List (Outcome Call)). Played m fs m) (sym (nil (omega arith))) refl)
+      (λ l. subst (λ (fs : List (Outcome Call)). Played m fs m) (sym (fields-cut s (λ z. omega arith) w)) (Done·case.Bad, m, (refl, refl, refl), refl))
 
 -- ── the fields, and the end ──
 
 module _ (m m′ buf o o₁ : List ℕ) (k : ℕ) (last : Bool) (r : Fed) (e : Feeds m m′ buf k o o₁ r) where
+  -- the fields of the buffer with more behind it
+  whole-are : (more : List ℕ) → fieldsOf (buf ++ more) ≡ fieldsOf (take (r .used) buf) ++ cond (r .ended) [] (fieldsOf (drop (r .used) buf ++ more))
+  whole-are more =
+      ap (λ (l : List ℕ). fieldsOf (l ++ more)) (sym (take-append-drop (r .used) buf))
+      ∙ ap fieldsOf (append-assoc (take (r .used) buf) (drop (r .used) buf) more)
+      ∙ e .whole (drop (r .used) buf ++ more)
+
   pub served-ended : (o′ : List ℕ) (p : ℕ) → r .ended ≡ true → (p ≤ r .put + 20590) × (take p o′ ≡ take (r .put) o₁ ++ ending (noteOf m′))
       → Serves m m′ buf k last o o′ (record { used = r .used; k = r .k; over = true; put = p })
   served-ended o′ p z w =
       record {
-        formed = e .formed;
         used-le = e .used-le;
-        count-le = e .count-le;
+        whole = λ more h. whole-are more ∙ ap (λ (t : Bool). fieldsOf (take (r .used) buf) ++ cond t [] (fieldsOf (drop (r .used) buf ++ more))) z;
+        does = e .does;
+        lines = w .1 ∙ ap (λ (l : List ℕ). l ++ ending (noteOf m′)) (e .lines);
         put-le = omega (arith, w .0, e .room);
-        goes = λ more h. e .goes more ∙ ap (λ (t : Bool). take (r .put) o₁ ++ leftOf t m′ (r .k) (drop (r .used) buf ++ more)) z ∙ sym (w .1) ∙ sym (append-nil (take p o′));
         starves = λ q. absurd (false≢true (sym q));
       }
 
@@ -43,30 +83,37 @@ module _ (m m′ buf o o₁ : List ℕ) (k : ℕ) (last : Bool) (r : Fed) (e : F
       short (inl w) = (ap isWhole (sym d) ∙ w .0, omega (arith, w .1, ap length d))
       short (inr l) = absurd (omega (arith, e .each-le, u, h))
 
-  pub served-last : (o′ : List ℕ) (p : ℕ) → r .ended ≡ false → r .used ≡ 0 → last ≡ true → (p ≤ r .put + 20640) × (take p o′ ≡ take (r .put) o₁ ++ toCome m′ (r .k) buf)
-      → Serves m m′ buf k last o o′ (record { used = r .used; k = r .k; over = true; put = p })
-  served-last o′ p z u l w =
-      let d : drop (r .used) buf ≡ buf = ap (λ (n : ℕ). drop n buf) u in
+  pub served-last : (o′ : List ℕ) (q : Served) → wellFormed m ≡ true → isWhole buf ≡ false → r .used ≡ 0 → last ≡ true → Finishes m′ buf (r .k) o₁ o′ (r .put) q → Serves m m′ buf k last o o′ q
+  served-last o′ q ok w u l f =
+      let none : fieldsOf (take (r .used) buf) ≡ [] = ap (λ (n : ℕ). fieldsOf (take n buf)) u ∙ fields-none [] refl in
+      let all : take (q .used) buf ≡ buf = ap (λ (n : ℕ). take n buf) (f .used) ∙ take-length buf in
+      let same : m′ ≡ m = subst (λ (fs : List (Outcome Call)). Played m fs m′) none (e .does .played) in
+      let first : r .k ≡ k = omega (arith, e .does .count, ap length none) in
+      let before : take (r .put) o₁ ≡ [] = e .lines ∙ ap (λ (n : ℕ). linesOf m k (take n buf)) u ∙ lines-nil m [] k refl in
       record {
-        formed = e .formed;
-        used-le = e .used-le;
-        count-le = e .count-le;
-        put-le = omega (arith, w .0, e .room);
-        goes = λ more h. ap (λ (x : List ℕ). toCome m k (buf ++ x)) (h l) ∙ e .goes []
-            ∙ ap (λ (t : Bool). take (r .put) o₁ ++ leftOf t m′ (r .k) (drop (r .used) buf ++ [])) z
-            ∙ ap (λ (x : List ℕ). take (r .put) o₁ ++ toCome m′ (r .k) x) (append-nil (drop (r .used) buf) ∙ d)
-            ∙ sym (w .1) ∙ sym (append-nil (take p o′));
-        starves = λ q. absurd (false≢true (sym q));
+        used-le = omega (arith, f .used);
+        whole = λ more h. ap (λ (x : List ℕ). fieldsOf (buf ++ x)) (h l) ∙ ap fieldsOf (append-nil buf ∙ sym all) ∙ sym (append-nil (fieldsOf (take (q .used) buf)))
+            ∙ ap (λ (t : Bool). fieldsOf (take (q .used) buf) ++ cond t [] (fieldsOf (drop (q .used) buf ++ more))) (sym (f .over));
+        does = replays m m′ (take (q .used) buf) k (q .k) ok
+            (subst (λ (x : List ℕ). Played m (fieldsOf (take (q .used) buf)) x) (sym same) (subst (λ (x : List ℕ). Played m (fieldsOf x) m) (sym all) (played-rest m buf k w)))
+            (omega (arith, f .count, first, ap (λ (x : List ℕ). length (fieldsOf x)) all));
+        lines = f .lines ∙ ap (λ (x : List ℕ). x ++ (linesOf m′ (r .k) buf ++ ending (noteOf m′))) before
+            ∙ ap (λ (x : List ℕ). linesOf x (r .k) buf ++ ending (noteOf m′)) same
+            ∙ ap (λ (n : ℕ). linesOf m n buf ++ ending (noteOf m′)) first
+            ∙ ap (λ (x : List ℕ). linesOf m k x ++ ending (noteOf m′)) (sym all)
+            ∙ ap (λ (t : Bool). linesOf m k (take (q .used) buf) ++ cond t (ending (noteOf m′)) []) (sym (f .over));
+        put-le = omega (arith, f .put-le, e .room);
+        starves = λ z. absurd (false≢true (sym z ∙ f .over));
       }
 
   pub served-on : r .ended ≡ false → 20690 ≤ length o → (r .used ≡ 0 → last ≡ false) → Serves m m′ buf k last o o₁ (record { used = r .used; k = r .k; over = false; put = r .put })
   served-on z h n =
       record {
-        formed = e .formed;
         used-le = e .used-le;
-        count-le = e .count-le;
+        whole = λ more q. whole-are more ∙ ap (λ (t : Bool). fieldsOf (take (r .used) buf) ++ cond t [] (fieldsOf (drop (r .used) buf ++ more))) z;
+        does = e .does;
+        lines = e .lines ∙ sym (append-nil (linesOf m k (take (r .used) buf)));
         put-le = omega (arith, e .room);
-        goes = λ more q. e .goes more ∙ ap (λ (t : Bool). take (r .put) o₁ ++ leftOf t m′ (r .k) (drop (r .used) buf ++ more)) z;
         starves = λ q u. (n u, starved z u h .1);
       }
 
@@ -77,14 +124,19 @@ pub advances : (m m′ b b′ o o′ : List ℕ) (st : State) (r : Served) (n : 
 advances m m′ b b′ o o′ st r n h e w =
     let s = take (st .fill) b in
     let l : length s ≡ st .fill = length-take-le (st .fill) b h in
+    let u : r .used ≡ st .fill - n = omega (arith, w .0, e .used-le) in
     let d : drop (r .used) s ≡ take n b′ = part-is (r .used) (st .fill) b ∙ sym (w .1) in
+    let taken : take (r .used) s ≡ take (st .fill - n) b = take-take (r .used) (st .fill) b (omega (arith, e .used-le)) ∙ ap (λ (i : ℕ). take i b) u in
     record {
-      formed = e .formed;
       fill-le = omega (arith, w .0);
-      count-le = omega (arith, e .count-le, w .0, e .used-le);
+      rest = w .1 ∙ ap (λ (i : ℕ). take i (drop (r .used) b)) (sym (w .0)) ∙ ap (λ (i : ℕ). take n (drop i b)) u;
+      whole = λ more q. e .whole more q
+          ∙ ap (λ (x : List ℕ). fieldsOf x ++ cond (r .over) [] (fieldsOf (drop (r .used) s ++ more))) taken
+          ∙ ap (λ (x : List ℕ). fieldsOf (take (st .fill - n) b) ++ cond (r .over) [] (fieldsOf (x ++ more))) d;
+      does = subst (λ (x : List ℕ). Replays m m′ x (st .k) (r .k)) taken (e .does);
+      lines = e .lines ∙ ap (λ (x : List ℕ). linesOf m (st .k) x ++ cond (r .over) (ending (noteOf m′)) []) taken;
       put-le = e .put-le;
       same-last = refl;
-      goes = λ more q. e .goes more q ∙ ap (λ (x : List ℕ). take (r .put) o′ ++ cond (r .over) [] (toCome m′ (r .k) (x ++ more))) d;
       starves = λ q f. (
           let z : r .used ≡ 0 = omega (arith, w .0, e .used-le) in
           (e .starves q z .0, omega (arith, e .starves q z .1)));

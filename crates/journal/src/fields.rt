@@ -71,7 +71,7 @@ pub(crate) fn whole_fields(m: &mut [u8], buf: &[u8], k: u64, out: &mut [u8]) -> 
             Field::Bad { used, put: p } => {
                 return Fed {
                     used: at + used,
-                    k: j,
+                    k: j + 1,
                     ended: true,
                     put: p,
                 };

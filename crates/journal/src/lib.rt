@@ -12,7 +12,6 @@ use listing_end::put_ending;
 use listing_lines::put_field;
 ghost use mathlib.Core.Path.{_≡_};
 ghost use mathlib.Core.Bool.{true, false};
-ghost use mathlib.Core.List.{_++_};
 ghost use Prim.Native.Nat.{_+_, _-_, _≤_, _<_, _^_};
 ghost use lib.ListN.{length, take, drop};
 ghost use Rattle.opening.specs.Opened.{opens};
@@ -20,7 +19,7 @@ ghost use Rattle.pool.specs.Calls.{Wrote};
 ghost use Rattle.memory.specs.Formed.{wellFormed};
 ghost use Rattle.plain_journal.specs.Fields.{isWhole};
 ghost use Rattle.plain_journal.specs.Replay.{slots};
-ghost use Rattle.journal.specs.Turns.{toCome, started as startedState, Serves, Advances, Turns};
+ghost use Rattle.journal.specs.Turns.{started as startedState, Finishes, Serves, Advances, Turns};
 
 const SLOTS: usize = 80;
 
@@ -68,15 +67,28 @@ pub fn started() -> State
 }
 
 // The end of the input: what is left of it is a cut field, or nothing.
-fn finish(m: &[u8], rest: &[u8], k: u64, out: &mut [u8], put: usize) -> usize
-    requires { ⌜ (wellFormed (now m) ≡ true) × (put + 20640 ≤ length (now out)) × (isWhole (now rest) ≡ false) ⌝ }
-    ensures { λ r. ⌜ (r ≤ put + 20640) × (take r (now (out .exit)) ≡ take put (now (out .entry)) ++ toCome (now (m .entry)) k (now (rest .entry))) ⌝ }
+fn finish(m: &[u8], rest: &[u8], k: u64, out: &mut [u8], put: usize) -> Served
+    requires { ⌜ (wellFormed (now m) ≡ true) × (put + 20640 ≤ length (now out)) × (isWhole (now rest) ≡ false) × (k + length (now rest) < 2 ^ 64) ⌝ }
+    ensures { λ r. ⌜ Finishes (now (m .entry)) (now (rest .entry)) k (now (out .entry)) (now (out .exit)) put r ⌝ }
 {
-    if rest.len() == 0 {
-        return put_ending(m, out, put);
+    let used = rest.len();
+    if used == 0 {
+        let p = put_ending(m, out, put);
+        return Served {
+            used,
+            k,
+            over: true,
+            put: p,
+        };
     }
-    let p = put_field(out, put, k, FIELD);
-    put_ending(m, out, p)
+    let q = put_field(out, put, k, FIELD);
+    let p = put_ending(m, out, q);
+    Served {
+        used,
+        k: k + 1,
+        over: true,
+        put: p,
+    }
 }
 
 // The fields that are whole in buf, and the end of the listing where it has come.
@@ -99,13 +111,7 @@ fn serve(m: &mut [u8], buf: &[u8], k: u64, last: bool, out: &mut [u8]) -> Served
     }
     if last {
         if used == 0 {
-            let p = finish(m, buf, j, out, put);
-            return Served {
-                used,
-                k: j,
-                over: true,
-                put: p,
-            };
+            return finish(m, buf, j, out, put);
         }
     }
     Served {
@@ -155,7 +161,7 @@ fn advance(m: &mut [u8], buf: &mut [u8], st: State, out: &mut [u8]) -> State
 }
 
 // A turn: refused by 2 where the memory is not well formed, by 3 where `fill` is past the buffer's end or the fields' numbers would pass 64 bits, by 9 where the
-// output is shorter than 20,690 bytes. A refused one changes nothing.
+// output is shorter than 20,690 bytes. A refused one changes nothing. Nor does one that comes when the listing is complete, which puts nothing.
 pub fn turn(m: &mut [u8], buf: &mut [u8], st: State, out: &mut [u8]) -> Turned
     ensures { λ r. ⌜ Turns (now (m .entry)) (now (m .exit)) (now (buf .entry)) (now (buf .exit)) st (now (out .entry)) (now (out .exit)) r ⌝ }
 {
@@ -171,6 +177,15 @@ pub fn turn(m: &mut [u8], buf: &mut [u8], st: State, out: &mut [u8]) -> Turned
     }
     if out.len() < ROOM {
         return Turned::Refused(Refusal::Output);
+    }
+    if st.over {
+        return Turned::On(State {
+            fill,
+            k: st.k,
+            last: st.last,
+            over: st.over,
+            put: 0,
+        });
     }
     Turned::On(advance(m, buf, st, out))
 }

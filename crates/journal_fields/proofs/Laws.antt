@@ -1,20 +1,30 @@
--- What became of a field, from what it asks for and from the step of its call.
-use mathlib.Core.Path.{_≡_, refl, ap, subst⁻¹, _∙_}
+-- What became of a field, from what it asks for and from the promise of its call; and that such a promise is a step of a sequence of calls.
+use mathlib.Core.Path.{_≡_, refl, sym, ap, subst⁻¹, _∙_}
 use mathlib.Core.List.{List}
 use Prim.Native.Nat.{ℕ}
 use Rattle.plain.specs.Outcome.{Outcome, Outcome.value, Outcome.refused, mapped}
-use Rattle.plain_calls.specs.Calls.{Call, Said}
+use Rattle.plain_calls.specs.Calls.{Call, Call.insert, Call.remove, Call.setMark, Call.dropMark, Call.look, Said}
+use Rattle.marks.specs.MarkBytes.{markPut}
 use Rattle.demands.specs.Steps.{Step}
+use Rattle.demands.proofs.Bridge.{insert-steps, remove-steps, set-steps}
 use Rattle.plain_journal.specs.Replay.{codeOf}
 use Rattle.journal_fields.specs.declared.Done.the-variants.{Bad, Code}
-use Rattle.journal_fields.specs.Applied.{Applied}
+use Rattle.journal_fields.specs.Applied.{Promised, Applied}
+
+-- THEOREM: what a field's call promises is a step of its call.
+pub promised-steps : (c : Call) (m : List ℕ) (a : Outcome Said) (after : List ℕ) → Promised c m a after → Step c m a after
+promised-steps (insert p piece) m a after w = rw (w .1) (insert-steps m after p piece (w .0) (w .2))
+promised-steps (remove s e) m a after w = rw (w .1) (remove-steps m after s e (w .0) (w .2))
+promised-steps (setMark p) m a after w = rw (w .1) (set-steps m after p (λ k. markPut m k p) (w .0) (w .2))
+promised-steps (dropMark k) m a after w = absurd w
+promised-steps (look l) m a after w = absurd w
 
 module _ (f : Outcome Call) (m : List ℕ) where
   pub applied-bad : f ≡ refused 10 → Applied f m Bad m
   applied-bad e = subst⁻¹ (λ (x : Outcome Call). Applied x m Bad m) e (refl, refl, refl)
 
   -- an answer of its own kind is told as one of all, and the number stays
-  pub applied-call : {A : Type 0} (tell : A → Said) (c : Call) (a : Outcome A) (n : ℕ) (after : List ℕ) → f ≡ value c → n ≡ codeOf a → Step c m (mapped tell a) after → Applied f m (Code n) after
+  pub applied-call : {A : Type 0} (tell : A → Said) (c : Call) (a : Outcome A) (n : ℕ) (after : List ℕ) → f ≡ value c → n ≡ codeOf a → Promised c m (mapped tell a) after → Applied f m (Code n) after
   applied-call {A = A} tell c a n after e is s = subst⁻¹ (λ (x : Outcome Call). Applied x m (Code n) after) e (mapped tell a, ap Code (is ∙ same a), s)
     where
       same : (x : Outcome A) → codeOf x ≡ codeOf (mapped tell x)

@@ -6,9 +6,9 @@ use Prim.Native.Nat.{ℕ, zero, suc, _+_, _-_, _*_, _≤_, _<_}
 use native.Mathlib.Omega.{arith}
 use lib.Dec.{eqb}
 use lib.ListN.{length, getD, take, drop, length-append, length-drop, List·getD-append}
-use lib.Seq.{take-append-le, drop-append-le}
+use lib.Seq.{length-take-le, getD-take, take-all, take-add, drop-length, take-append-le, drop-append-le}
 use borrow.Author.Tests.{eq-eqb, ne-eqb, le-leb, lt-leb, leb-true, leb-false}
-use Rattle.plain.specs.Outcome.{Outcome, Outcome.refused}
+use Rattle.plain.specs.Outcome.{Outcome, Outcome.value, Outcome.refused}
 use Rattle.plain_calls.specs.Calls.{Call}
 use Rattle.pool.specs.Big.{twoAt}
 use Rattle.plain_journal.specs.Fields.{fieldBytes, isWhole, tagOf, bodyOf, behind, asked, before, framed, fieldsOf}
@@ -111,3 +111,58 @@ module _ (s more : List ℕ) (w : isWhole s ≡ true) where
   -- THEOREM: whatever comes behind it, the field at the front is the same.
   pub fields-more : fieldsOf (s ++ more) ≡ before (asked (tagOf s) (bodyOf s)) (fieldsOf (behind s ++ more))
   fields-more = fields-whole (s ++ more) more-whole ∙ cc (more-tag, more-body, more-behind)
+
+-- ── the field at the front alone ──
+
+module _ (s : List ℕ) (w : isWhole s ≡ true) where
+  abbrev front : List ℕ
+  front = take (fieldBytes s) s
+
+  front-long : length front ≡ fieldBytes s
+  front-long = length-take-le (fieldBytes s) s (whole-le s w)
+
+  front-two : twoAt front 1 ≡ twoAt s 1
+  unfolding twoAt
+  front-two =
+      ap (λ (x : ℕ). x * 256 + getD front 2 0) (getD-take (fieldBytes s) s 1 0 (omega (arith, three-bytes s)))
+      ∙ ap (λ (x : ℕ). getD s 1 0 * 256 + x) (getD-take (fieldBytes s) s 2 0 (omega (arith, three-bytes s)))
+
+  front-bytes : fieldBytes front ≡ fieldBytes s
+  front-bytes = bytes-are front ∙ ap (λ (x : ℕ). 3 + x) front-two ∙ sym (bytes-are s)
+
+  front-whole : isWhole front ≡ true
+  front-whole = whole-is front (omega (arith, front-bytes, front-long))
+
+  front-all : front ++ behind s ≡ s
+  front-all = sym (take-add (fieldBytes s) (length s) s ∙ ap (λ (l : List ℕ). front ++ l) (take-all (length s) (behind s) (omega (arith, length-drop (fieldBytes s) s)))) ∙ take-all (fieldBytes s + length s) s (omega arith)
+
+  front-asks : asked (tagOf front) (bodyOf front) ≡ asked (tagOf s) (bodyOf s)
+  front-asks =
+      sym (cc (more-tag front (behind s) front-whole, more-body front (behind s) front-whole))
+      ∙ ap (λ (l : List ℕ). asked (tagOf l) (bodyOf l)) front-all
+
+  -- THEOREM: its bytes, with more behind them, are this field and then the fields of those.
+  pub fields-front : (more : List ℕ) → fieldsOf (front ++ more) ≡ before (asked (tagOf s) (bodyOf s)) (fieldsOf more)
+  fields-front more =
+      let none : behind front ≡ [] = ap (λ (n : ℕ). drop n front) (front-bytes ∙ sym front-long) ∙ drop-length front in
+      fields-more front more front-whole ∙ cc (front-asks, none)
+
+-- ── no more fields than bytes ──
+
+before-le : (f : Outcome Call) (fs : List (Outcome Call)) → length (before f fs) ≤ 1 + length fs
+before-le (value c) fs = omega arith
+before-le (refused q) fs = omega arith
+
+framed-le : (k : ℕ) (s : List ℕ) → length (framed k s) ≤ k
+unfolding framed
+framed-le zero s = omega arith
+framed-le (suc k) s = go (framed-le k (behind s)) (eqb (length s) 0) (isWhole s)
+  where
+    go : length (framed k (behind s)) ≤ k → (t u : Bool) → length (cond t [] (cond u (before (asked (tagOf s) (bodyOf s)) (framed k (behind s))) (refused 10 ∷ []))) ≤ suc k
+    go h true u = omega arith
+    go h false true = omega (arith, before-le (asked (tagOf s) (bodyOf s)) (framed k (behind s)))
+    go h false false = omega arith
+
+pub fields-le : (s : List ℕ) → length (fieldsOf s) ≤ length s
+unfolding fieldsOf
+fields-le s = framed-le (length s) s

@@ -1,4 +1,5 @@
 pub mod Framing
 pub mod Asked
+pub mod Replay
 pub mod Listed
 pub mod Shown

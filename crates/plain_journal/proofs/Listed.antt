@@ -1,52 +1,58 @@
--- The laws of what is listed from a field on: by the field at the front of an input, whatever bytes come behind it.
-use mathlib.Core.Path.{_≡_, refl, ap, _∙_}
-use mathlib.Core.Bool.{true, false}
-use mathlib.Core.List.{List, [], _∷_, _++_, append-assoc}
-use Prim.Native.Nat.{ℕ, _+_}
+-- The laws of fields behind others: the note, the numbers, the lines and what is listed.
+use mathlib.Core.Path.{_≡_, refl, sym, ap, _∙_}
+use mathlib.Core.List.{List, [], _∷_, _++_, append-assoc, append-nil}
+use Prim.Native.Nat.{ℕ, suc, _+_}
+use native.Mathlib.Omega.{arith}
 use lib.ListN.{length}
-use Rattle.plain.specs.Outcome.{Outcome, Outcome.value, Outcome.refused}
+use Rattle.plain.specs.Outcome.{Outcome}
 use Rattle.plain_note.specs.Note.{Note}
 use Rattle.plain_calls.specs.Calls.{Call}
-use Rattle.plain_journal.specs.Fields.{isWhole, tagOf, bodyOf, behind, asked, before, fieldsOf}
 use Rattle.plain_journal.specs.Replay.{played, noteThen, codeOf, codes, after}
 use Rattle.plain_journal.specs.Listing.{fieldLine, fieldLines, ending, listed}
-use Rattle.plain_journal.proofs.Framing.{fields-none, fields-cut, fields-more}
 
-listed-none : (N : Note) (k : ℕ) → listed N k [] ≡ ending N
+pub listed-none : (N : Note) (k : ℕ) → listed N k [] ≡ ending N
 unfolding listed codes after fieldLines
 listed-none N k = refl
 
-listed-field : (N : Note) (k : ℕ) (f : Outcome Call) (fs : List (Outcome Call))
-    → listed N k (f ∷ fs) ≡ fieldLine k (codeOf (played N f)) ++ listed (noteThen N f) (k + 1) fs
-unfolding listed codes after fieldLines
-listed-field N k f fs = append-assoc (fieldLine k (codeOf (played N f))) (fieldLines (k + 1) (codes (noteThen N f) fs)) (ending (after (noteThen N f) fs))
+-- ── fields behind others ──
 
-listed-bad : (N : Note) (k q : ℕ) → listed N k (refused q ∷ []) ≡ fieldLine k q ++ ending N
-listed-bad N k q = listed-field N k (refused q) [] ∙ ap (λ (l : List ℕ). fieldLine k q ++ l) (listed-none N (k + 1))
+-- THEOREM: the note after fields, and then others; their numbers; their lines; what is listed of them.
+pub after-then : (N : Note) (fs gs : List (Outcome Call)) → after N (fs ++ gs) ≡ after (after N fs) gs
+unfolding after
+after-then N [] gs = refl
+after-then N (f ∷ fs) gs = after-then (noteThen N f) fs gs
 
--- ── at the input's end ──
+codes-then : (N : Note) (fs gs : List (Outcome Call)) → codes N (fs ++ gs) ≡ codes N fs ++ codes (after N fs) gs
+unfolding codes after
+codes-then N [] gs = refl
+codes-then N (f ∷ fs) gs = ap (λ (l : List ℕ). codeOf (played N f) ∷ l) (codes-then (noteThen N f) fs gs)
 
-module _ (N : Note) (k : ℕ) (s : List ℕ) where
-  -- THEOREM: nothing is left.
-  pub ends : length s ≡ 0 → listed N k (fieldsOf s) ≡ ending N
-  ends e = ap (listed N k) (fields-none s e) ∙ listed-none N k
+codes-long : (N : Note) (fs : List (Outcome Call)) → length (codes N fs) ≡ length fs
+unfolding codes
+codes-long N [] = refl
+codes-long N (f ∷ fs) = ap suc (codes-long (noteThen N f) fs)
 
-  -- THEOREM: a cut field is left.
-  pub ends-cut : (length s ≡ 0 → ⊥) → isWhole s ≡ false → listed N k (fieldsOf s) ≡ fieldLine k 10 ++ ending N
-  ends-cut ne w = ap (listed N k) (fields-cut s ne w) ∙ listed-bad N k 10
+lines-then : (k : ℕ) (cs ds : List ℕ) → fieldLines k (cs ++ ds) ≡ fieldLines k cs ++ fieldLines (k + length cs) ds
+unfolding fieldLines
+lines-then k [] ds = ap (λ (n : ℕ). fieldLines n ds) (omega arith)
+lines-then k (c ∷ cs) ds =
+    let z : k + 1 + length cs ≡ k + suc (length cs) = omega arith in
+    ap (λ (l : List ℕ). fieldLine k c ++ l) (lines-then (k + 1) cs ds ∙ ap (λ (n : ℕ). fieldLines (k + 1) cs ++ fieldLines n ds) z)
+    ∙ sym (append-assoc (fieldLine k c) (fieldLines (k + 1) cs) (fieldLines (k + suc (length cs)) ds))
 
--- ── a whole field at the front ──
+module _ (N : Note) (k : ℕ) (fs : List (Outcome Call)) where
+  both : (gs : List (Outcome Call)) → fieldLines k (codes N (fs ++ gs)) ≡ fieldLines k (codes N fs) ++ fieldLines (k + length fs) (codes (after N fs) gs)
+  both gs =
+      ap (fieldLines k) (codes-then N fs gs) ∙ lines-then k (codes N fs) (codes (after N fs) gs)
+      ∙ ap (λ (n : ℕ). fieldLines k (codes N fs) ++ fieldLines (k + n) (codes (after N fs) gs)) (codes-long N fs)
 
-module _ (N : Note) (k : ℕ) (s more : List ℕ) (w : isWhole s ≡ true) where
-  -- THEOREM: one that asks for a call.
-  pub goes-on : (c : Call) → asked (tagOf s) (bodyOf s) ≡ value c
-      → listed N k (fieldsOf (s ++ more)) ≡ fieldLine k (codeOf (played N (value c))) ++ listed (noteThen N (value c)) (k + 1) (fieldsOf (behind s ++ more))
-  goes-on c e =
-      ap (listed N k) (fields-more s more w ∙ ap (λ (f : Outcome Call). before f (fieldsOf (behind s ++ more))) e)
-      ∙ listed-field N k (value c) (fieldsOf (behind s ++ more))
+  -- one more
+  pub lines-one : (f : Outcome Call) → fieldLines k (codes N (fs ++ (f ∷ []))) ≡ fieldLines k (codes N fs) ++ fieldLine (k + length fs) (codeOf (played (after N fs) f))
+  unfolding codes fieldLines
+  lines-one f = both (f ∷ []) ∙ ap (λ (l : List ℕ). fieldLines k (codes N fs) ++ l) (append-nil (fieldLine (k + length fs) (codeOf (played (after N fs) f))))
 
-  -- THEOREM: a bad one.
-  pub stops-at : (q : ℕ) → asked (tagOf s) (bodyOf s) ≡ refused q → listed N k (fieldsOf (s ++ more)) ≡ fieldLine k q ++ ending N
-  stops-at q e =
-      ap (listed N k) (fields-more s more w ∙ ap (λ (f : Outcome Call). before f (fieldsOf (behind s ++ more))) e)
-      ∙ listed-bad N k q
+  pub listed-then : (gs : List (Outcome Call)) → listed N k (fs ++ gs) ≡ fieldLines k (codes N fs) ++ listed (after N fs) (k + length fs) gs
+  unfolding listed
+  listed-then gs =
+      cc (both gs, after-then N fs gs)
+      ∙ append-assoc (fieldLines k (codes N fs)) (fieldLines (k + length fs) (codes (after N fs) gs)) (ending (after (after N fs) gs))

@@ -73,8 +73,8 @@ module _ (m m′ b b′ o o′ : List ℕ) (st r : State) (run : Running m b st)
           }
 
 -- a turn that was taken
-pub taken-is : (m m′ b b′ o o′ : List ℕ) (st r : State) (t : Turned) → Turns m m′ b b′ st o o′ t → t ≡ Turned·case.On r → Advances m m′ b b′ st o o′ r
-taken-is m m′ b b′ o o′ st r t w e = subst (λ (x : Turned). Taken m m′ b b′ st o o′ (turned x)) e (w .taken)
+pub taken-is : (m m′ b b′ o o′ : List ℕ) (st r : State) (t : Turned) → Turns m m′ b b′ st o o′ t → t ≡ Turned·case.On r → st .over ≡ false → Advances m m′ b b′ st o o′ r
+taken-is m m′ b b′ o o′ st r t w e on = subst (λ (x : Turned). Taken m m′ b b′ st o o′ (turned x)) e (w .taken) .1 on
 
 -- a program that goes on
 pub pumps-on : (m b : List ℕ) (x : Pumped) (r : State) → Pumps m b x → x ≡ On r → Running m b r

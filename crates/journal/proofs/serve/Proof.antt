@@ -1,7 +1,9 @@
 use Prim.Native.Nat.{_+_, _≤_}
 use mathlib.Core.Path.{_≡_}
 use native.Mathlib.Omega.{arith}
-use lib.ListN.{length}
+use lib.ListN.{length, take}
+use lib.Seq.{length-take-le}
+use Rattle.plain_journal.proofs.Framing.{fields-le}
 use Rattle.journal.proofs.Turns.{served-ended, starved, served-last, served-on}
 use borrow.Author.Needs.{needs}
 use Rattle.journal.proofs.serve.Statement.{statement}
@@ -36,7 +38,7 @@ returns c =
     let ol : length (f .last .1 .1 .1 .0) ≡ length (a .out .now) = f .kept .1 .1 .1 .0 in
     let p = c .before .before .put-ending in
     let room : f .result .put + 20590 ≤ length (f .last .1 .1 .1 .0) = omega (arith, f .ensures .room) in
-    served-ended (a .m .now) (f .last .0) (a .buf .now) (a .out .now) (f .last .1 .1 .1 .0) (a .k) (a .last) (f .result) (f .ensures) (p .last .1 .0) (p .result) (c .before .before .before .before .before .if1 .taken) (p .ensures .0 (f .ensures .formed) .0 room)
+    served-ended (a .m .now) (f .last .0) (a .buf .now) (a .out .now) (f .last .1 .1 .1 .0) (a .k) (a .last) (f .result) (f .ensures) (p .last .1 .0) (p .result) (c .before .before .before .before .before .if1 .taken) (p .ensures .0 (f .ensures .does .left .formed) .0 room)
 
 -- src/lib.rt:102:17
 finish-requires : tie.Need-finish-requires
@@ -44,7 +46,12 @@ finish-requires c κs =
     let a = c .before .before .before .before .before .before .before .before .before .before .before .before .before .before .before .args in
     let f = c .before .before .before .before .before .before .before .before .before .whole-fields in
     let ol : length (f .last .1 .1 .1 .0) ≡ length (a .out .now) = f .kept .1 .1 .1 .0 in
-    (f .ensures .formed, omega (arith, f .ensures .room), starved (a .m .now) (f .last .0) (a .buf .now) (a .out .now) (f .last .1 .1 .1 .0) (a .k) (a .last) (f .result) (f .ensures) (c .before .before .before .before .if1 .left) (c .before .before .if3 .taken) (omega arith) .0)
+    let none = c .before .before .if3 .taken in (
+      f .ensures .does .left .formed,
+      omega (arith, f .ensures .room),
+      starved (a .m .now) (f .last .0) (a .buf .now) (a .out .now) (f .last .1 .1 .1 .0) (a .k) (a .last) (f .result) (f .ensures) (c .before .before .before .before .if1 .left) none (omega arith) .0,
+      omega (arith, none, f .ensures .does .count, fields-le (take (f .result .used) (a .buf .now)), length-take-le (f .result .used) (a .buf .now) (f .ensures .used-le), c .before .before .before .before .before .before .before .before .before .before .before .before .before .before .before .pre .1),
+    )
 
 -- src/lib.rt:103:13
 same-length-3 : tie.Need-same-length-3
@@ -61,7 +68,10 @@ returns-2 c =
     let f = c .before .before .before .before .before .before .before .before .before .before .before .before .whole-fields in
     let ol : length (f .last .1 .1 .1 .0) ≡ length (a .out .now) = f .kept .1 .1 .1 .0 in
     let p = c .before .before .finish in
-    served-last (a .m .now) (f .last .0) (a .buf .now) (a .out .now) (f .last .1 .1 .1 .0) (a .k) (a .last) (f .result) (f .ensures) (p .last .1 .1 .1 .0) (p .result) (c .before .before .before .before .before .before .before .if1 .left) (c .before .before .before .before .before .if3 .taken) (c .before .before .before .before .before .before .if2 .taken) (p .ensures)
+    let none = c .before .before .before .before .before .if3 .taken in
+    served-last (a .m .now) (f .last .0) (a .buf .now) (a .out .now) (f .last .1 .1 .1 .0) (a .k) (a .last) (f .result) (f .ensures) (p .last .1 .1 .1 .0) (p .result) (c .before .before .before .before .before .before .before .before .before .before .before .before .before .before .before .before .before .before .pre .0)
+    (starved (a .m .now) (f .last .0) (a .buf .now) (a .out .now) (f .last .1 .1 .1 .0) (a .k) (a .last) (f .result) (f .ensures) (c .before .before .before .before .before .before .before .if1 .left) none (c .before .before .before .before .before .before .before .before .before .before .before .before .before .before .before .before .before .before .pre .2) .0)
+    none (c .before .before .before .before .before .before .if2 .taken) (p .ensures)
 
 -- src/lib.rt:83:1
 same-length-5 : tie.Need-same-length-5

@@ -1,4 +1,5 @@
 use mathlib.Core.Path.{refl, sym, _∙_}
+use mathlib.Core.Bool.{false≢true}
 use native.Mathlib.Omega.{arith}
 use borrow.Author.Tests.{not-true, not-false}
 use Rattle.journal.proofs.Turns.{bad-memory, bad-fill, bad-count, bad-output, turn-taken}
@@ -58,27 +59,36 @@ returns-4 c =
     let a = c .before .before .before .before .before .before .before .before .before .before .args in
     record { answered = bad-output (a .m .now) (a .buf .now) (a .out .now) (a .st) (sym (c .before .before .before .before .before .check .ensures) ∙ not-false _ (c .before .before .before .before .if1 .left)) (omega arith) (omega arith) (c .if4 .taken); taken = (refl, refl, refl) }
 
--- src/lib.rt:175:16
-advance-requires : tie.Need-advance-requires
-advance-requires c κs = (sym (c .before .before .before .before .before .before .before .before .check .ensures) ∙ not-false _ (c .before .before .before .before .before .before .before .if1 .left), omega arith, omega arith, omega arith)
-
--- src/lib.rt:159:1
 same-length-5 : tie.Need-same-length-5
 same-length-5 c = search needs
 
--- src/lib.rt:159:1
+returns-5 : tie.Need-returns-5
+returns-5 c =
+    let a = c .before .before .before .before .before .before .before .before .before .before .before .args in
+    record {
+      answered = turn-taken (a .m .now) (a .buf .now) (a .out .now) (a .st) (sym (c .before .before .before .before .before .before .check .ensures) ∙ not-false _ (c .before .before .before .before .before .if1 .left)) (omega arith) (omega arith) (omega arith);
+      taken = (λ e. (refl, (refl, refl, refl)), λ e. absurd (false≢true (sym e ∙ c .if5 .taken)));
+    }
+
+advance-requires : tie.Need-advance-requires
+advance-requires c κs = (sym (c .before .before .before .before .before .before .before .before .before .check .ensures) ∙ not-false _ (c .before .before .before .before .before .before .before .before .if1 .left), omega arith, omega arith, omega arith)
+
 same-length-6 : tie.Need-same-length-6
 same-length-6 c = search needs
 
--- src/lib.rt:159:1
 same-length-7 : tie.Need-same-length-7
 same-length-7 c = search needs
 
--- src/lib.rt:159:1
-returns-5 : tie.Need-returns-5
-returns-5 c =
-    let a = c .before .before .before .before .before .before .before .before .before .before .before .before .before .before .before .before .before .before .before .before .args in
-    record { answered = turn-taken (a .m .now) (a .buf .now) (a .out .now) (a .st) (sym (c .before .before .before .before .before .before .before .before .before .before .before .before .before .before .before .check .ensures) ∙ not-false _ (c .before .before .before .before .before .before .before .before .before .before .before .before .before .before .if1 .left)) (omega arith) (omega arith) (omega arith); taken = c .before .before .before .before .before .before .advance .ensures }
+same-length-8 : tie.Need-same-length-8
+same-length-8 c = search needs
+
+returns-6 : tie.Need-returns-6
+returns-6 c =
+    let a = c .before .before .before .before .before .before .before .before .before .before .before .before .before .before .before .before .before .before .before .before .before .args in
+    record {
+      answered = turn-taken (a .m .now) (a .buf .now) (a .out .now) (a .st) (sym (c .before .before .before .before .before .before .before .before .before .before .before .before .before .before .before .before .check .ensures) ∙ not-false _ (c .before .before .before .before .before .before .before .before .before .before .before .before .before .before .before .if1 .left)) (omega arith) (omega arith) (omega arith);
+      taken = (λ e. absurd (false≢true (sym (c .before .before .before .before .before .before .before .before .before .before .if5 .left) ∙ e)), λ e. c .before .before .before .before .before .before .advance .ensures);
+    }
 
 pub turn-spec : {M : Type 1} → statement M
 turn-spec =
@@ -94,8 +104,10 @@ turn-spec =
     returns-3
     same-length-4
     returns-4
-    advance-requires
     same-length-5
+    returns-5
+    advance-requires
     same-length-6
     same-length-7
-    returns-5)
+    same-length-8
+    returns-6)

@@ -1,16 +1,15 @@
 use Rattle.journal_fields.proofs.Laws.{applied-bad, applied-call}
 use Rattle.plain_journal.proofs.Asked.{asks-insert, bad-insert}
 use Rattle.plain_journal.specs.Fields.{asked}
-use Rattle.demands.proofs.Bridge.{insert-steps}
 use Rattle.line_change.specs.Change.{change}
 use Rattle.plain_calls.specs.Calls.{Call.insert, Said.by}
 use Rattle.plain.specs.Outcome.{Outcome.value}
 use lib.Seq.{take-all}
-use lib.ListN.{length, take, drop, length-drop}
+use lib.ListN.{length, drop, length-drop}
 use native.Mathlib.Omega.{arith}
 use Prim.Native.Nat.{ℕ, _-_}
 use mathlib.Core.List.{List}
-use mathlib.Core.Path.{sym, ap, _∙_}
+use mathlib.Core.Path.{refl, sym, ap, _∙_}
 use borrow.Author.Needs.{needs}
 use Rattle.journal_fields.proofs.insert_field.Statement.{statement}
 use Rattle.journal_fields.proofs.insert_field.Tie as tie
@@ -65,7 +64,7 @@ returns-2 c =
     let p = c .before .before .before .before .before .before .number-at in
     applied-call (asked 1 b) (a .m .now) by _ (change (i .result)) (c .code-of-change .result) (i .last .0)
     (asks-insert b (omega arith) ∙ ap (λ (x : ℕ). value (insert x (drop 4 b))) (sym (p .ensures .0)) ∙ ap (λ (l : List ℕ). value (insert (p .result) l)) (sym (take-all (length b - 4) (drop 4 b) (omega (arith, length-drop 4 b)))))
-    (c .code-of-change .ensures) (insert-steps (a .m .now) (i .last .0) (p .result) (take (length b - 4) (drop 4 b)) (change (i .result)) (i .ensures))
+    (c .code-of-change .ensures) (change (i .result), refl, i .ensures)
 
 pub insert-field-spec : {M : Type 1} → statement M
 insert-field-spec =

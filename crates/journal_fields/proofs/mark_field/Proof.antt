@@ -1,13 +1,11 @@
 use Rattle.journal_fields.proofs.Laws.{applied-bad, applied-call}
 use Rattle.plain_journal.proofs.Asked.{asks-mark, bad-mark}
 use Rattle.plain_journal.specs.Fields.{asked}
-use Rattle.demands.proofs.Bridge.{set-steps}
-use Rattle.marks.specs.MarkBytes.{markPut}
 use Rattle.answer.specs.Answers.{number}
 use Rattle.plain_calls.specs.Calls.{Call.setMark, Said.is}
 use Rattle.plain.specs.Outcome.{Outcome.value}
 use Prim.Native.Nat.{ℕ}
-use mathlib.Core.Path.{sym, ap, _∙_}
+use mathlib.Core.Path.{refl, sym, ap, _∙_}
 use borrow.Author.Needs.{needs}
 use Rattle.journal_fields.proofs.mark_field.Statement.{statement}
 use Rattle.journal_fields.proofs.mark_field.Tie as tie
@@ -50,7 +48,7 @@ returns-2 c =
     let p = c .before .before .before .before .before .number-at in
     applied-call (asked 3 b) (a .m .now) is _ (number (r .result)) (c .code-of-number .result) (r .last .0)
     (asks-mark b (c .before .before .before .before .before .before .if1 .left) ∙ ap (λ (x : ℕ). value (setMark x)) (sym (p .ensures .0)))
-    (c .code-of-number .ensures) (set-steps (a .m .now) (r .last .0) (p .result) (λ k. markPut (a .m .now) k (p .result)) (number (r .result)) (r .ensures))
+    (c .code-of-number .ensures) (number (r .result), refl, r .ensures)
 
 pub mark-field-spec : {M : Type 1} → statement M
 mark-field-spec =

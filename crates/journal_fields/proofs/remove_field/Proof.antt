@@ -1,13 +1,12 @@
 use Rattle.journal_fields.proofs.Laws.{applied-bad, applied-call}
 use Rattle.plain_journal.proofs.Asked.{asks-remove, bad-remove}
 use Rattle.plain_journal.specs.Fields.{asked}
-use Rattle.demands.proofs.Bridge.{remove-steps}
 use Rattle.pool.specs.Big.{fourAt}
 use Rattle.line_change.specs.Change.{change}
 use Rattle.plain_calls.specs.Calls.{Call.remove, Said.by}
 use Rattle.plain.specs.Outcome.{Outcome.value}
 use Prim.Native.Nat.{ℕ}
-use mathlib.Core.Path.{sym, ap, _∙_}
+use mathlib.Core.Path.{refl, sym, ap, _∙_}
 use borrow.Author.Needs.{needs}
 use Rattle.journal_fields.proofs.remove_field.Statement.{statement}
 use Rattle.journal_fields.proofs.remove_field.Tie as tie
@@ -59,7 +58,7 @@ returns-2 c =
     let e = c .before .before .before .before .before .number-at2 in
     applied-call (asked 2 b) (a .m .now) by _ (change (r .result)) (c .code-of-change .result) (r .last .0)
     (asks-remove b (c .before .before .before .before .before .before .before .if1 .left) ∙ ap (λ (x : ℕ). value (remove x (fourAt b 4))) (sym (s .ensures .0)) ∙ ap (λ (x : ℕ). value (remove (s .result) x)) (sym (e .ensures .0)))
-    (c .code-of-change .ensures) (remove-steps (a .m .now) (r .last .0) (s .result) (e .result) (change (r .result)) (r .ensures))
+    (c .code-of-change .ensures) (change (r .result), refl, r .ensures)
 
 pub remove-field-spec : {M : Type 1} → statement M
 remove-field-spec =

@@ -56,7 +56,7 @@ slice-reshare-prefix-write-all c =
     let a = p .args in
     let t = c .before .before .before .before .before .before .before .before .before .turn in
     let r = c .before .turned .given .0 .0 in
-    let v = taken-is (a .m .now) (t .last .0) (a .buf .now) (t .last .1 .0) (a .out .now) (t .last .1 .1 .1 .0) (a .st) r (t .result) (t .ensures) (c .before .turned .given .1) in
+    let v = taken-is (a .m .now) (t .last .0) (a .buf .now) (t .last .1 .0) (a .out .now) (t .last .1 .1 .1 .0) (a .st) r (t .result) (t .ensures) (c .before .turned .given .1) (p .pre .1) in
     let ol : length (t .last .1 .1 .1 .0) ≡ length (a .out .now) = t .kept .1 .1 .1 .0 in
     omega (arith, v .put-le)
 
@@ -67,7 +67,7 @@ slice-aggregate-write-all c =
     let a = p .args in
     let t = c .before .before .before .before .before .before .before .before .before .before .turn in
     let r = c .before .before .turned .given .0 .0 in
-    let v = taken-is (a .m .now) (t .last .0) (a .buf .now) (t .last .1 .0) (a .out .now) (t .last .1 .1 .1 .0) (a .st) r (t .result) (t .ensures) (c .before .before .turned .given .1) in
+    let v = taken-is (a .m .now) (t .last .0) (a .buf .now) (t .last .1 .0) (a .out .now) (t .last .1 .1 .1 .0) (a .st) r (t .result) (t .ensures) (c .before .before .turned .given .1) (p .pre .1) in
     let ol : length (t .last .1 .1 .1 .0) ≡ length (a .out .now) = t .kept .1 .1 .1 .0 in
     sym (length-take-le (r .put) (t .last .1 .1 .1 .0) (omega (arith, v .put-le)))
 
@@ -118,7 +118,7 @@ returns-3 c =
     let a = p .args in
     let t = c .before .before .before .before .before .before .before .before .before .before .before .before .before .turn in
     let r = c .before .before .before .before .before .turned .given .0 .0 in
-    let v = taken-is (a .m .now) (t .last .0) (a .buf .now) (t .last .1 .0) (a .out .now) (t .last .1 .1 .1 .0) (a .st) r (t .result) (t .ensures) (c .before .before .before .before .before .turned .given .1) in
+    let v = taken-is (a .m .now) (t .last .0) (a .buf .now) (t .last .1 .0) (a .out .now) (t .last .1 .1 .1 .0) (a .st) r (t .result) (t .ensures) (c .before .before .before .before .before .turned .given .1) (p .pre .1) in
     turn-runs (a .m .now) (t .last .0) (a .buf .now) (t .last .1 .0) (a .out .now) (t .last .1 .1 .1 .0) (a .st) r (p .pre .0) (p .pre .1) v (t .kept .1 .0)
 
 -- src/main.rt:74:9
@@ -140,7 +140,7 @@ returns-4 c =
     let a = p .args in
     let t = c .before .before .before .before .before .before .before .before .before .before .before .before .before .before .before .turn in
     let r = c .before .before .before .before .before .before .before .turned .given .0 .0 in
-    let v = taken-is (a .m .now) (t .last .0) (a .buf .now) (t .last .1 .0) (a .out .now) (t .last .1 .1 .1 .0) (a .st) r (t .result) (t .ensures) (c .before .before .before .before .before .before .before .turned .given .1) in
+    let v = taken-is (a .m .now) (t .last .0) (a .buf .now) (t .last .1 .0) (a .out .now) (t .last .1 .1 .1 .0) (a .st) r (t .result) (t .ensures) (c .before .before .before .before .before .before .before .turned .given .1) (p .pre .1) in
     turn-runs (a .m .now) (t .last .0) (a .buf .now) (t .last .1 .0) (a .out .now) (t .last .1 .1 .1 .0) (a .st) r (p .pre .0) (p .pre .1) v (t .kept .1 .0)
 
 -- src/main.rt:76:5
@@ -150,7 +150,7 @@ read-more-requires c κs =
     let a = p .args in
     let t = c .before .before .before .before .before .before .before .before .before .before .before .before .before .before .before .before .turn in
     let r = c .before .before .before .before .before .before .before .before .turned .given .0 .0 in
-    let v = taken-is (a .m .now) (t .last .0) (a .buf .now) (t .last .1 .0) (a .out .now) (t .last .1 .1 .1 .0) (a .st) r (t .result) (t .ensures) (c .before .before .before .before .before .before .before .before .turned .given .1) in
+    let v = taken-is (a .m .now) (t .last .0) (a .buf .now) (t .last .1 .0) (a .out .now) (t .last .1 .1 .1 .0) (a .st) r (t .result) (t .ensures) (c .before .before .before .before .before .before .before .before .turned .given .1) (p .pre .1) in
     let bl : length (t .last .1 .0) ≡ length (a .buf .now) = t .kept .1 .0 in
     omega (arith, v .starves (c .before .before .before .if2 .left) (omega (arith, v .fill-le, c .before .if3 .left)) .1, p .pre .2)
 
@@ -173,7 +173,7 @@ returns-5 c =
     let a = p .args in
     let t = c .before .before .before .before .before .before .before .before .before .before .before .before .before .before .before .before .before .before .before .turn in
     let r = c .before .before .before .before .before .before .before .before .before .before .before .turned .given .0 .0 in
-    let v = taken-is (a .m .now) (t .last .0) (a .buf .now) (t .last .1 .0) (a .out .now) (t .last .1 .1 .1 .0) (a .st) r (t .result) (t .ensures) (c .before .before .before .before .before .before .before .before .before .before .before .turned .given .1) in
+    let v = taken-is (a .m .now) (t .last .0) (a .buf .now) (t .last .1 .0) (a .out .now) (t .last .1 .1 .1 .0) (a .st) r (t .result) (t .ensures) (c .before .before .before .before .before .before .before .before .before .before .before .turned .given .1) (p .pre .1) in
     let m = c .before .before .read-more in
     read-runs (a .m .now) (t .last .0) (a .buf .now) (t .last .1 .0) (a .out .now) (t .last .1 .1 .1 .0) (a .st) r (p .pre .0) (p .pre .1) v (t .kept .1 .0) (m .last .0) (m .result) (c .before .before .before .before .before .before .if2 .left) (omega (arith, v .fill-le, c .before .before .before .before .if3 .left)) (m .ensures)
 

@@ -1,11 +1,6 @@
-use mathlib.Core.Path.{refl, subst}
-use Prim.Native.Nat.{_+_, _-_, _≤_}
+use mathlib.Core.Path.{refl}
 use native.Mathlib.Omega.{arith}
-use lib.ListN.{length, take, drop}
-use Rattle.plain_journal.specs.Fields.{tagOf, asked}
-use Rattle.journal_fields.specs.declared.Done.{Done}
-use Rattle.journal_fields.specs.Applied.{Applied}
-use Rattle.journal.proofs.Listed.{none-whole, one-whole, field-listed, field-bad}
+use Rattle.journal.proofs.Listed.{none-whole, one-whole, as-asked}
 use borrow.Author.Needs.{needs}
 use Rattle.journal.proofs.fields.one_field.Statement.{statement}
 use Rattle.journal.proofs.fields.one_field.Tie as tie
@@ -69,12 +64,10 @@ same-length-2 c = search needs
 returns-2 : tie.Need-returns-2
 returns-2 c =
     let a = c .before .before .before .before .before .before .before .before .before .before .before .before .before .before .before .before .before .args in
-    let room : a .put + 50 ≤ length (a .out .now) = c .before .before .before .before .before .before .before .before .before .before .before .before .before .before .before .before .before .pre .1 in
     let f = c .before .before .before .before .before .before .before .before .before .before .before .before .before .field-bytes in
     let w = one-whole (a .s .now) (f .result) (f .ensures .0) (c .before .before .before .before .before .before .before .before .before .before .before .before .if1 .left) in
     let x = c .before .before .before .before .before .before .before .before .apply in
-    let p = c .before .before .put-field in
-    field-bad (a .m .now) (x .last .0) (a .s .now) (a .out .now) (p .last .0) (a .k) (a .put) (f .result) 10 (p .result) (c .before .before .before .before .before .before .before .before .before .before .before .before .before .before .before .before .before .pre .0) (w .0) (w .1) (p .ensures .0 room) refl (subst (λ (r : Done). Applied (asked (tagOf (a .s .now)) (take (f .result - 3) (drop 3 (a .s .now)))) (a .m .now) r (x .last .0)) (c .before .before .before .before .enum-told .given .1) (x .ensures))
+    (w .0, w .1, as-asked (a .s .now) (f .result) (w .1) (a .m .now) (x .last .0) (x .result) _ (c .before .before .before .before .enum-told .given .1) (x .ensures), c .before .before .put-field .ensures)
 
 -- src/fields.rt:48:9
 put-field-requires-2 : tie.Need-put-field-requires-2
@@ -92,12 +85,11 @@ same-length-4 c = search needs
 returns-3 : tie.Need-returns-3
 returns-3 c =
     let a = c .before .before .before .before .before .before .before .before .before .before .before .before .before .before .before .before .before .before .args in
-    let room : a .put + 50 ≤ length (a .out .now) = c .before .before .before .before .before .before .before .before .before .before .before .before .before .before .before .before .before .before .pre .1 in
     let f = c .before .before .before .before .before .before .before .before .before .before .before .before .before .before .field-bytes in
     let w = one-whole (a .s .now) (f .result) (f .ensures .0) (c .before .before .before .before .before .before .before .before .before .before .before .before .before .if1 .left) in
     let x = c .before .before .before .before .before .before .before .before .before .apply in
-    let p = c .before .before .put-field2 in
-    field-listed (a .m .now) (x .last .0) (a .s .now) (a .out .now) (p .last .0) (a .k) (a .put) (f .result) (c .before .before .before .before .before .done .given .0 .0) (p .result) (c .before .before .before .before .before .before .before .before .before .before .before .before .before .before .before .before .before .before .pre .0) (w .0) (w .1) (p .ensures .0 room) (subst (λ (r : Done). Applied (asked (tagOf (a .s .now)) (take (f .result - 3) (drop 3 (a .s .now)))) (a .m .now) r (x .last .0)) (c .before .before .before .before .before .done .given .1) (x .ensures))
+    let t = c .before .before .before .before .before .done .given in
+    (t .0 .0, (w .0, w .1, as-asked (a .s .now) (f .result) (w .1) (a .m .now) (x .last .0) (x .result) _ (t .1) (x .ensures), c .before .before .put-field2 .ensures))
 
 pub one-field-spec : {M : Type 1} → statement M
 one-field-spec =
