@@ -1,4 +1,4 @@
--- What an edit made of a node of height h in slot s: as good as any child, or good but for its size.
+-- What an edit made of a node of height h in slot s: as good as any child, or good but for its size. An edit that was not done made nothing of it.
 use mathlib.Core.Path.{_≡_}
 use mathlib.Core.Bool.{true}
 use mathlib.Core.List.{List, [], _∷_, map}
@@ -8,7 +8,7 @@ use Rattle.pool.specs.declared.Kid.{Kid}
 use Rattle.pool.specs.Slot.{lenOf}
 use Rattle.tree.specs.Tree.{every, seamless, leastAt, toldRight, sound}
 use Rattle.tree.specs.Kids.{below, fine}
-use Rattle.edits.specs.Made.{Made, Made.same, Made.split, Made.small}
+use Rattle.edits.specs.Made.{Made, Made.same, Made.split, Made.small, Made.apart}
 use Rattle.became.specs.Became.{Became}
 
 -- children, each sound and told right, with whole seams between them
@@ -31,3 +31,4 @@ abbrev pub MadeIs : List ℕ → List ℕ → ℕ → ℕ → (ℕ → ℕ) → 
 MadeIs m later n d u h s t (same i) = Grown m later n d u h (kid s i ∷ []) t
 MadeIs m later n d u h s t (split i v j) = Grown m later n d u h (kid s i ∷ kid v j ∷ []) t
 MadeIs m later n d u h s t (small i) = Shrunk m later n d u h (kid s i) t
+MadeIs m later n d u h s t apart = ⊥

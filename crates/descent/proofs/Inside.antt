@@ -1,10 +1,11 @@
--- An edit of chars inside the leaf that a search finds: it is that of these bytes of the leaf, or is refused and changes no byte.
+-- An edit of chars inside the leaf that a search finds: it is that of these bytes of the leaf, or nothing is done.
 use mathlib.Core.Path.{_≡_, refl, sym, ap, _∙_}
+use mathlib.Core.Bool.{Bool, true, false, cond}
 use mathlib.Core.List.{List}
 use Prim.Native.Nat.{ℕ, zero, suc, _+_, _-_, _≤_, _<_}
 use native.Mathlib.Omega.{arith}
 use lib.ListN.{length}
-use borrow.Author.Tests.{le-leb, lt-leb}
+use borrow.Author.Tests.{lt-ltb, le-ltb}
 use Rattle.plain.specs.Outcome.{Outcome, Outcome.value, Outcome.refused, mapped}
 use Rattle.text_info.specs.declared.TextSum.{TextSum}
 use Rattle.text_info.specs.Info.{zeros}
@@ -12,28 +13,29 @@ use Rattle.child_search.specs.declared.Measure.the-variants.{CharEnds}
 use Rattle.tree.specs.Tree.{plusSum}
 use Rattle.tree_search.specs.Search.{branchAt, below, leafAt}
 use Rattle.leaf_parts.specs.Parts.{leafText, byteIn}
-use Rattle.edits.specs.Made.{Made}
+use Rattle.edits.specs.Made.{Made, Made.apart}
 use Rattle.edits.specs.Acts.{Act, reading}
 use Rattle.descent.specs.declared.Part.{Part}
 use Rattle.descent.specs.declared.Part.the-variants.{Bytes, Inside}
-use Rattle.descent.specs.Descent.{spanInside, insidePart, risenAfter, editedAt}
+use Rattle.rise.specs.Rise.{risen}
+use Rattle.descent.specs.Descent.{liesInside, insidePart, risenAfter, editedAt}
 
 -- ── the bytes ──
 
 module _ (t : List ℕ) (at k : ℕ) where
   -- no char stays before them
-  pub span-low : at ≤ k → spanInside t at k ≡ refused 12
-  unfolding spanInside
-  span-low h = rw (le-leb at k h) refl
+  pub lies-low : at ≤ k → liesInside t at k ≡ false
+  unfolding liesInside
+  lies-low h = rw (le-ltb k at h) refl
 
   -- none stays behind them
-  pub span-end : k < at → length t ≤ byteIn t at → spanInside t at k ≡ refused 12
-  unfolding spanInside
-  span-end h l = rw (lt-leb at k h, le-leb (length t) (byteIn t at) l) refl
+  pub lies-end : k < at → length t ≤ byteIn t at → liesInside t at k ≡ false
+  unfolding liesInside
+  lies-end h l = rw (lt-ltb k at h, le-ltb (byteIn t at) (length t) l) refl
 
-  pub span-is : k < at → byteIn t at < length t → spanInside t at k ≡ value (byteIn t (at - k), byteIn t at)
-  unfolding spanInside
-  span-is h l = rw (lt-leb at k h, lt-leb (length t) (byteIn t at) l) refl
+  pub lies-so : k < at → byteIn t at < length t → liesInside t at k ≡ true
+  unfolding liesInside
+  lies-so h l = rw (lt-ltb k at h, lt-ltb (byteIn t at) (length t) l) refl
 
 -- ── one level down ──
 
@@ -73,9 +75,9 @@ module _ (m : List ℕ) (h s at leaf : ℕ) (left : TextSum) where
 -- ── the law ──
 
 module _ (m : List ℕ) (k : ℕ) (piece : List ℕ) where
-  -- the edit of the bytes b
-  abbrev edited : ℕ → ℕ → ℕ → ℕ × ℕ → Act Made
-  edited h s at b = editedAt m h s CharEnds at (Bytes (b .0) (b .1)) piece
+  -- the edit of the bytes of the k chars before the char q of a text, if they lie inside it
+  abbrev pub tried : ℕ → ℕ → ℕ → List ℕ → ℕ → Bool → Act Made
+  tried h s at t q lies = cond lies (editedAt m h s CharEnds at (Bytes (byteIn t (q - k)) (byteIn t q)) piece) (value apart, m)
 
   module _ (h s at : ℕ) (c : ℕ × (ℕ × TextSum)) (first : branchAt m s CharEnds at ≡ value c) where
     abbrev there : Part → Act Made
@@ -86,29 +88,28 @@ module _ (m : List ℕ) (k : ℕ) (piece : List ℕ) where
     above part =
         ap (λ (o : Outcome (ℕ × (ℕ × TextSum))). reading m o (λ d. risenAfter (editedAt m h (d .1 .0) CharEnds (at - d .1 .1 .chars) part piece) s (d .0))) first
 
-    up : (o : Outcome (ℕ × ℕ)) → there (Inside k) ≡ reading m o (edited h (c .1 .0) (at - c .1 .1 .chars))
-        → editedAt m (suc h) s CharEnds at (Inside k) piece ≡ reading m o (edited (suc h) s at)
-    up (value b) e = above (Inside k) ∙ ap (λ (a : Act Made). risenAfter a s (c .0)) e ∙ sym (above (Bytes (b .0) (b .1)))
-    up (refused n) e = above (Inside k) ∙ ap (λ (a : Act Made). risenAfter a s (c .0)) e
+    up : (t : List ℕ) (q : ℕ) (lies : Bool) → there (Inside k) ≡ tried h (c .1 .0) (at - c .1 .1 .chars) t q lies
+        → editedAt m (suc h) s CharEnds at (Inside k) piece ≡ tried (suc h) s at t q lies
+    unfolding risen
+    up t q true e = above (Inside k) ∙ ap (λ (a : Act Made). risenAfter a s (c .0)) e ∙ sym (above (Bytes (byteIn t (q - k)) (byteIn t q)))
+    up t q false e = above (Inside k) ∙ ap (λ (a : Act Made). risenAfter a s (c .0)) e
 
   at-leaf : (s at leaf : ℕ) (left : TextSum) → leafAt m 0 s CharEnds at ≡ value (leaf, left)
-      → editedAt m 0 s CharEnds at (Inside k) piece ≡ reading m (spanInside (leafText m leaf) (at - left .chars) k) (edited 0 s at)
+      → editedAt m 0 s CharEnds at (Inside k) piece ≡ tried 0 s at (leafText m leaf) (at - left .chars) (liesInside (leafText m leaf) (at - left .chars) k)
   unfolding leafAt editedAt insidePart
   at-leaf s at leaf left e =
       let both : _≡_ {A = ℕ × TextSum} (s, zeros) (leaf, left) = cc in
       let place : at ≡ at - left .chars = omega (arith, ap (λ (x : ℕ × TextSum). x .1 .chars) both) in
-      ap (λ (x : ℕ). reading m (spanInside (leafText m x) at k) (edited 0 s at)) (ap (λ (x : ℕ × TextSum). x .0) both)
-      ∙ ap (λ (x : ℕ). reading m (spanInside (leafText m leaf) x k) (edited 0 s at)) place
+      ap (λ (x : ℕ). tried 0 s at (leafText m x) at (liesInside (leafText m x) at k)) (ap (λ (x : ℕ × TextSum). x .0) both)
+      ∙ ap (λ (x : ℕ). tried 0 s at (leafText m leaf) x (liesInside (leafText m leaf) x k)) place
 
-  -- THEOREM: an edit inside the leaf that a search finds is that of its bytes there, or is refused with no byte changed
+  -- THEOREM: an edit inside the leaf that a search finds is that of its bytes there, or nothing is done
   pub inside-edited : (h s at leaf : ℕ) (left : TextSum) → leafAt m h s CharEnds at ≡ value (leaf, left)
-      → editedAt m h s CharEnds at (Inside k) piece
-      ≡ reading m (spanInside (leafText m leaf) (at - left .chars) k) (λ b. editedAt m h s CharEnds at (Bytes (b .0) (b .1)) piece)
+      → editedAt m h s CharEnds at (Inside k) piece ≡ tried h s at (leafText m leaf) (at - left .chars) (liesInside (leafText m leaf) (at - left .chars) k)
   inside-edited zero s at leaf left e = at-leaf s at leaf left e
   inside-edited (suc h) s at leaf left e =
       let d = down m h s at leaf left e in
       let place : at - d .child .1 .1 .chars - d .inner .chars ≡ at - left .chars = omega (arith, d .sum) in
-      let o : Outcome (ℕ × ℕ) = spanInside (leafText m leaf) (at - left .chars) k in
-      up h s at (d .child) (d .first) o
+      up h s at (d .child) (d .first) (leafText m leaf) (at - left .chars) (liesInside (leafText m leaf) (at - left .chars) k)
       (inside-edited h (d .child .1 .0) (at - d .child .1 .1 .chars) leaf (d .inner) (d .then)
-      ∙ ap (λ (x : ℕ). reading m (spanInside (leafText m leaf) x k) (edited h (d .child .1 .0) (at - d .child .1 .1 .chars))) place)
+      ∙ ap (λ (x : ℕ). tried h (d .child .1 .0) (at - d .child .1 .1 .chars) (leafText m leaf) x (liesInside (leafText m leaf) x k)) place)

@@ -1,15 +1,15 @@
 -- From the tests of the code to the definitions: an edit of a part of a leaf, and one level down.
 use mathlib.Core.Path.{_≡_, refl, sym, ap, subst, _∙_}
+use mathlib.Core.Bool.{Bool, true, false, cond}
 use mathlib.Core.List.{List, [], _∷_}
 use Prim.Native.Nat.{ℕ, zero, suc, _+_, _-_, _≤_, _<_}
 use native.Mathlib.Omega.{arith}
 use lib.ListN.{length, drop}
 use borrow.Author.Tests.{lt-ltb, le-ltb}
 use Rattle.plain.specs.Place.{isStart, startChars, placeOf}
-use Rattle.plain.specs.Outcome.{Outcome, Outcome.value, Outcome.refused}
+use Rattle.plain.specs.Outcome.{Outcome, Outcome.value}
 use Rattle.plain.proofs.Logic.{cut, bit-le}
 use Rattle.answer.specs.declared.Refusal.{Refusal}
-use Rattle.answer.specs.declared.Refusal.the-variants.{Side}
 use Rattle.text_info.specs.declared.TextSum.{TextSum}
 use Rattle.child_search.specs.declared.Measure.{Measure}
 use Rattle.tree_search.specs.declared.Branch.{Branch}
@@ -18,14 +18,14 @@ use Rattle.tree_search.specs.Search.{branch, countIn, branchAt}
 use Rattle.leaf_parts.specs.Parts.{leafText, byteIn}
 use Rattle.edits.specs.declared.Edit.{Edit}
 use Rattle.edits.specs.declared.Edit.the-variants as Edit·case
-use Rattle.edits.specs.Made.{Made, edit, Stepped}
+use Rattle.edits.specs.Made.{Made, Made.apart, edit, Stepped}
 use Rattle.edits.specs.Acts.{Act, settled, reading, Did}
 use Rattle.leaf_step.specs.Steps.{leafStepped}
 use Rattle.rise.specs.Rise.{risenBy}
 use Rattle.descent.specs.declared.Part.{Part}
 use Rattle.descent.specs.declared.Part.the-variants as Part·case
-use Rattle.descent.specs.Descent.{spanInside, insidePart, leafPart, risenAfter, editedAt}
-use Rattle.descent.proofs.Inside.{span-low, span-end, span-is}
+use Rattle.descent.specs.Descent.{liesInside, insidePart, leafPart, risenAfter, editedAt}
+use Rattle.descent.proofs.Inside.{lies-low, lies-end, lies-so}
 
 -- ── chars behind others ──
 
@@ -57,30 +57,30 @@ end-is text at k more i start rest is j end =
 -- ── a part of a leaf ──
 
 module _ (m : List ℕ) (s at k : ℕ) (piece : List ℕ) where
-  abbrev stepped : ℕ × ℕ → Act Made
-  stepped b = settled m (leafStepped m s (b .0) (b .1) piece)
+  abbrev stepped : List ℕ → Act Made
+  stepped t = settled m (leafStepped m s (byteIn t (at - k)) (byteIn t at) piece)
 
-  inside-by : (o : Outcome (ℕ × ℕ)) → spanInside (leafText m s) at k ≡ o → reading m o stepped ≡ insidePart m s at k piece
+  inside-by : (lies : Bool) → liesInside (leafText m s) at k ≡ lies → cond lies (stepped (leafText m s)) (value apart, m) ≡ insidePart m s at k piece
   unfolding insidePart
-  inside-by o e = ap (λ (x : Outcome (ℕ × ℕ)). reading m x stepped) (sym e)
+  inside-by lies e = ap (λ (x : Bool). cond x (stepped (leafText m s)) (value apart, m)) (sym e)
 
-  no-part : spanInside (leafText m s) at k ≡ refused 12 → Did edit (insidePart m s at k piece) (Edit·case.Refused Side) m
-  no-part e = subst (λ (a : Act Made). Did edit a (Edit·case.Refused Side) m) (inside-by (refused 12) e) (record { answered = refl; memory = refl })
+  no-part : liesInside (leafText m s) at k ≡ false → Did edit (insidePart m s at k piece) Edit·case.Apart m
+  no-part e = subst (λ (a : Act Made). Did edit a Edit·case.Apart m) (inside-by false e) (record { answered = refl; memory = refl })
 
-  pub none-before : at ≤ k → Did edit (insidePart m s at k piece) (Edit·case.Refused Side) m
-  none-before h = no-part (span-low (leafText m s) at k h)
+  pub none-before : at ≤ k → Did edit (insidePart m s at k piece) Edit·case.Apart m
+  none-before h = no-part (lies-low (leafText m s) at k h)
 
   module _ (more : k < at) (text : List ℕ) (is : text ≡ leafText m s) (e : ℕ) (end : e ≡ byteIn text at) where
-    pub none-behind : length text ≤ e → Did edit (insidePart m s at k piece) (Edit·case.Refused Side) m
-    none-behind h = no-part (ap (λ (t : List ℕ). spanInside t at k) (sym is) ∙ span-end text at k more (omega (arith, end)))
+    pub none-behind : length text ≤ e → Did edit (insidePart m s at k piece) Edit·case.Apart m
+    none-behind h = no-part (ap (λ (t : List ℕ). liesInside t at k) (sym is) ∙ lies-end text at k more (omega (arith, end)))
 
     pub some-inside : e < length text → (i : ℕ) → i ≡ byteIn text (at - k) → (r : Edit) (after : List ℕ) → Stepped (leafStepped m s i e piece) m r after
         → Did edit (insidePart m s at k piece) r after
     some-inside h i start r after p =
-        let z : spanInside (leafText m s) at k ≡ value (i, e)
-        = ap (λ (t : List ℕ). spanInside t at k) (sym is) ∙ span-is text at k more (omega (arith, end))
-        ∙ ap (λ (x : ℕ). value (x, byteIn text at)) (sym start) ∙ ap (λ (x : ℕ). value (i, x)) (sym end) in
-        subst (λ (a : Act Made). Did edit a r after) (inside-by (value (i, e)) z) (record { answered = p .answered; memory = p .memory })
+        let z : liesInside (leafText m s) at k ≡ true = ap (λ (t : List ℕ). liesInside t at k) (sym is) ∙ lies-so text at k more (omega (arith, end)) in
+        let y : settled m (leafStepped m s i e piece) ≡ stepped (leafText m s)
+        = ap (λ (x : ℕ). settled m (leafStepped m s x e piece)) start ∙ ap (λ (x : ℕ). settled m (leafStepped m s (byteIn text (at - k)) x piece)) end ∙ ap stepped is in
+        subst (λ (a : Act Made). Did edit a r after) (y ∙ inside-by true z) (record { answered = p .answered; memory = p .memory })
 
 module _ (m : List ℕ) (s at : ℕ) (part : Part) (piece : List ℕ) (r : Edit) (after : List ℕ) where
   pub part-bytes : (i e : ℕ) → part ≡ Part·case.Bytes i e → Stepped (leafStepped m s i e piece) m r after → Did edit (leafPart m s at part piece) r after

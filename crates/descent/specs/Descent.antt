@@ -1,29 +1,30 @@
 -- What an edit of the leaf that a search finds comes to, one level down at each step: the answer, and every byte afterwards. Where the tree is
 -- broken a step may be refused behind one that was done; in a sound tree none is.
-use mathlib.Core.Bool.{cond}
+use mathlib.Core.Bool.{Bool, _&&_, cond}
 use mathlib.Core.List.{List}
 use Prim.Native.Nat.{ℕ, zero, suc, _-_}
-use lib.Dec.{leb}
+use lib.Dec.{ltb}
 use lib.ListN.{length}
-use Rattle.plain.specs.Outcome.{Outcome, Outcome.value, Outcome.refused}
+use Rattle.plain.specs.Outcome.{Outcome.value}
 use Rattle.child_search.specs.declared.Measure.{Measure}
 use Rattle.tree_search.specs.Search.{countIn, branchAt}
 use Rattle.leaf_parts.specs.Parts.{leafText, byteIn}
-use Rattle.edits.specs.Made.{Made}
+use Rattle.edits.specs.Made.{Made, Made.apart}
 use Rattle.edits.specs.Acts.{Act, settled, reading}
 use Rattle.leaf_step.specs.Steps.{leafStepped}
 use Rattle.rise.specs.Rise.{risen, risenBy}
 use Rattle.descent.specs.declared.Part.{Part}
 use Rattle.descent.specs.declared.Part.the-variants as Part·case
 
--- the bytes of the k chars before the char `at` of a text: 12 unless chars stay before them and behind them
-unfoldable pub spanInside : List ℕ → ℕ → ℕ → Outcome (ℕ × ℕ)
-spanInside t at k = cond (leb at k) (refused 12) (cond (leb (length t) (byteIn t at)) (refused 12) (value (byteIn t (at - k), byteIn t at)))
+-- whether the k chars before the char `at` lie inside a text: chars stay before them and behind them
+unfoldable pub liesInside : List ℕ → ℕ → ℕ → Bool
+liesInside t at k = ltb k at && ltb (byteIn t at) (length t)
 
--- these of the leaf in slot s give way to a piece
+-- these of the leaf in slot s give way to a piece, if they lie inside it
 unfoldable pub insidePart : List ℕ → ℕ → ℕ → ℕ → List ℕ → Act Made
-unfolding leafStepped spanInside
-insidePart m s at k piece = reading m (spanInside (leafText m s) at k) (λ b. settled m (leafStepped m s (b .0) (b .1) piece))
+unfolding leafStepped liesInside
+insidePart m s at k piece =
+    cond (liesInside (leafText m s) at k) (settled m (leafStepped m s (byteIn (leafText m s) (at - k)) (byteIn (leafText m s) at) piece)) (value apart, m)
 
 -- a part of the leaf in slot s gives way to a piece
 abbrev pub leafPart : List ℕ → ℕ → ℕ → Part → List ℕ → Act Made

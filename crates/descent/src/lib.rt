@@ -1,5 +1,4 @@
 // An edit of the leaf that a search finds, one level down at each step, and what became of it told up again.
-use answer::Refusal;
 use child_search::Measure;
 use edits::Edit;
 use leaf_parts::behind;
@@ -14,25 +13,25 @@ ghost use Rattle.edits.specs.Made.{edit};
 ghost use Rattle.edits.specs.Acts.{Did};
 ghost use Rattle.descent.specs.Descent.{insidePart, leafPart, editedAt};
 
-// Which part of a leaf's text gives way to the piece: bytes of it; or so many chars before the place that was sought, refused by 12 unless
-// chars of the leaf stay before them and behind them.
+// Which part of a leaf's text gives way to the piece: bytes of it; or so many chars before the place that was sought, if chars of the leaf stay before
+// them and behind them.
 pub enum Part {
     Bytes(usize, usize),
     Inside(usize),
 }
 
-// k chars inside a leaf give way to a piece; the last of them ends at its char `at`.
+// k chars inside a leaf give way to a piece; the last of them ends at its char `at`. Where they do not lie inside it, nothing is done.
 fn edit_inside(m: &mut [u8], slot: usize, at: usize, k: usize, piece: &[u8]) -> Edit
     ensures { λ r. ⌜ Did edit (insidePart (now (m .entry)) slot at k (now (piece .entry))) r (now (m .exit)) ⌝ }
 {
     if at <= k {
-        return Edit::Refused(Refusal::Side);
+        return Edit::Apart;
     }
     let text = text_at(m, slot);
     let start = byte_in(text, at - k);
     let end = start + byte_in(behind(text, start), k);
     if text.len() <= end {
-        return Edit::Refused(Refusal::Side);
+        return Edit::Apart;
     }
     leaf_step(m, slot, start, end, piece)
 }

@@ -14,11 +14,13 @@ pub data Made : Type 0 where
   same : TextInfo → Made
   split : TextInfo → ℕ → TextInfo → Made
   small : TextInfo → Made
+  apart : Made
 
 abbrev pub edit : Edit → Outcome Made
 edit (Edit·case.Same i) = value (same i)
 edit (Edit·case.Split i s j) = value (split i s j)
 edit (Edit·case.Small i) = value (small i)
+edit Edit·case.Apart = value apart
 edit (Edit·case.Refused r) = refused (refusalNumber r)
 
 -- a node of n bytes or children, which should have `least`

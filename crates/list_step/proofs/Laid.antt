@@ -24,7 +24,7 @@ use Rattle.tree.proofs.Frame.{hit-self, KeptAll, kept-all}
 use Rattle.note_head.specs.Head.{nOf, freeOf}
 use Rattle.note_head.proofs.Own.{front-n, front-free}
 use Rattle.memory.specs.Formed.{frees, chained}
-use Rattle.edits.specs.Made.{Made, Made.same, Made.split, Made.small}
+use Rattle.edits.specs.Made.{Made, Made.same, Made.split, Made.small, Made.apart}
 use Rattle.became.specs.Became.{usesAll, bytesAll, free, Slotted, Became}
 use Rattle.became.specs.Grown.{kid, MadeIs}
 use Rattle.became.proofs.Rules.{became-more}
@@ -156,3 +156,4 @@ pub made-more : (m l : List ℕ) (n d e : ℕ) (u : ℕ → ℕ) (h s : ℕ) (t 
 made-more m l n d e u h s t (same i) r q = record { became = became-more m l n d u h _ t (r .became) e q; each = r .each; seams = r .seams }
 made-more m l n d e u h s t (split i c j) r q = record { became = became-more m l n d u h _ t (r .became) e q; each = r .each; seams = r .seams }
 made-more m l n d e u h s t (small i) r q = record { became = became-more m l n d u h _ t (r .became) e q; good = r .good; told = r .told; few = r .few }
+made-more m l n d e u h s t apart r q = r

@@ -12,7 +12,7 @@ use Rattle.tree.specs.Tree.{every, seamless}
 use Rattle.tree.specs.Kids.{below, fine}
 use Rattle.tree.proofs.Lists.{join-append, every-append}
 use Rattle.tree.proofs.Frame.{KeptAll}
-use Rattle.edits.specs.Made.{Made, Made.same, Made.split, Made.small}
+use Rattle.edits.specs.Made.{Made, Made.same, Made.split, Made.small, Made.apart}
 use Rattle.became.specs.Became.{usesAll, bytesAll, free, Slotted, Became}
 use Rattle.became.specs.Grown.{Grown, MadeIs}
 use Rattle.became.proofs.Rules.{became-as, same-length, beside, among, then}
@@ -83,6 +83,7 @@ module _ (m a later : List ℕ) (n d e : ℕ) (u k : ℕ → ℕ) (h : ℕ) (mid
   made-then (same i) r = record { became = then m a later n d e u k h mid t w g _ v p q (r .became); each = r .each; seams = r .seams }
   made-then (split i c j) r = record { became = then m a later n d e u k h mid t w g _ v p q (r .became); each = r .each; seams = r .seams }
   made-then (small i) r = record { became = then m a later n d e u k h mid t w g _ v p q (r .became); good = r .good; told = r .told; few = r .few }
+  made-then apart r = r
 
 -- ── another name for what was used, and for the bytes; more spent ──
 
@@ -90,3 +91,4 @@ pub made-as : (m l : List ℕ) (n d : ℕ) (u w : ℕ → ℕ) (h s : ℕ) (t v 
 made-as m l n d u w h s t v (same i) r e q = record { became = became-as m l n d u h _ t (r .became) w v e q; each = r .each; seams = r .seams }
 made-as m l n d u w h s t v (split i c j) r e q = record { became = became-as m l n d u h _ t (r .became) w v e q; each = r .each; seams = r .seams }
 made-as m l n d u w h s t v (small i) r e q = record { became = became-as m l n d u h _ t (r .became) w v e q; good = r .good; told = r .told; few = r .few }
+made-as m l n d u w h s t v apart r e q = r

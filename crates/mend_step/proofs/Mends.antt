@@ -27,7 +27,7 @@ use Rattle.merge.specs.Join.{joined}
 use Rattle.merge.specs.Merge.{settledMemory}
 use Rattle.slots.specs.Slots.{given, givenMemory}
 use Rattle.slots.proofs.Laws.{given-value, given-is}
-use Rattle.edits.specs.Made.{Made, Made.same, Made.split, Made.small, sized}
+use Rattle.edits.specs.Made.{Made, Made.same, Made.split, Made.small, Made.apart, sized}
 use Rattle.became.specs.Became.{usesAll, free, Became}
 use Rattle.became.specs.Grown.{kid, MadeIs}
 use Rattle.became.proofs.Rules.{same-length}
@@ -72,6 +72,7 @@ module _ (m mid : List ℕ) (n d b : ℕ) (u : ℕ → ℕ) (h s : ℕ) (t : Lis
         shrunk-freed m mid after n d b u h t (given-is mid n few (r .became .slotted) b low none) (kid s i) r (omega (arith, r .became .conserve b)) q,
         given-value mid n few (r .became .slotted) b low none,
       )
+  given-back apart r = absurd r
 
 module _ (m : List ℕ) (n g p i : ℕ) (pre : List Kid) (x y : Kid) (post : List Kid) (info : TextInfo) (r : Lame m n g p pre x y post info) (at : length pre ≡ i) where
   abbrev a : ℕ

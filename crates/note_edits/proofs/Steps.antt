@@ -11,10 +11,12 @@ use Rattle.plain.specs.Utf8.{decode}
 use Rattle.plain.specs.Count.{crLast}
 use Rattle.plain.specs.Edit.{replaced, putIn, cutOut}
 use Rattle.plain.specs.Outcome.{Outcome.value, Outcome.refused}
-use Rattle.answer.specs.Answers.{refusalNumber, number, verdict}
+use Rattle.answer.specs.Answers.{refusalNumber, number, truth, verdict}
 use Rattle.answer.specs.declared.Refusal.{Refusal}
 use Rattle.answer.specs.declared.Number.{Number}
 use Rattle.answer.specs.declared.Number.the-variants as Number·case
+use Rattle.answer.specs.declared.Truth.{Truth}
+use Rattle.answer.specs.declared.Truth.the-variants as Truth·case
 use Rattle.answer.specs.declared.Verdict.{Verdict}
 use Rattle.answer.specs.declared.Verdict.the-variants as Verdict·case
 use Rattle.child_search.specs.declared.Measure.{Measure}
@@ -31,7 +33,7 @@ use Rattle.edited.specs.Turned.{textIn, Turned, Puts, Cuts, Removes}
 use Rattle.edited.proofs.Lent.{turned}
 use Rattle.edited.proofs.Removal.{turned-same, cut-on, cut-further}
 use Rattle.note_edits.specs.Side.{sideOf}
-use Rattle.note_edits.specs.Tried.{Tried}
+use Rattle.note_edits.specs.Tried.{TurnedIf, Tried}
 
 -- the side, by the answer of `behind_cr`
 pub side-is : (cs : List ℕ) (p : ℕ) (t : Bool) → t ≡ crLast (take p cs) → cond t CharEnds Chars ≡ sideOf cs p
@@ -63,38 +65,50 @@ module _ (m : List ℕ) (p : ℕ) (piece : List ℕ) (w : Puts m p piece) where
       (sym (ap (λ (l : List ℕ). putIn p (decode l) (textIn m)) z ∙ ap (λ (l : List ℕ). putIn p l (textIn m)) none-decoded ∙ take-append-drop p (textIn m)))
 
   pub put-turned : (by : Measure) → by ≡ sideOf (textIn m) p → (r : Verdict) (after : List ℕ) → Did verdict (putAt m by p piece) r after
-      → Turned m (putIn p (decode piece) (textIn m)) after
+      → (verdict r ≡ value tt) × Turned m (putIn p (decode piece) (textIn m)) after
   put-turned by e r after d =
       let o = put-held m (nOf m) (noteBytes m) (w .holds) p piece (w .valid) (w .short) (w .room) by (subst (λ (b : Measure). Sided b (textIn m) p) (sym e) (sided (textIn m) p)) (w .here) in
-      let z : after ≡ o .later = d .memory ∙ ap (λ (x : Act (Unit {0})). x .1) (o .is) in
-      subst (Turned m (putIn p (decode piece) (textIn m))) (sym z) (turned m (o .later) (nOf m) (o .new) (putIn p (decode piece) (textIn m)) (o .held) (o .chars) (o .kept))
+      let z : after ≡ o .later = d .memory ∙ ap (λ (x : Act (Unit {0})). x .1) (o .is) in (
+        d .answered ∙ ap (λ (x : Act (Unit {0})). x .0) (o .is),
+        subst (Turned m (putIn p (decode piece) (textIn m))) (sym z) (turned m (o .later) (nOf m) (o .new) (putIn p (decode piece) (textIn m)) (o .held) (o .chars) (o .kept)),
+      )
+
+-- ── what was accepted is not refused ──
+
+pub never : {X : Type 0} (r : Verdict) → verdict r ≡ value tt → (q : Refusal) → r ≡ Verdict·case.Refused q → X
+never r a q e = absurd (let z : refused (refusalNumber q) ≡ value tt = sym (ap verdict e) ∙ a in let y : _≡_ {A = ℕ} 0 1 = cc in omega arith)
 
 -- ── chars that give way to a piece inside one leaf ──
 
-module _ (m : List ℕ) (p k : ℕ) (piece : List ℕ) (w : Puts m p piece) (way : (piece ≡ []) ⊎ (k ≡ 0)) (r : Verdict) (after : List ℕ)
-    (d : Did verdict (insideAt m p k piece) r after) where
-  by-law : {X : Type 0} → (verdict r ≡ refused 12 → after ≡ m → X) → (verdict r ≡ value tt → Turned m (replaced (p - k) p (decode piece) (textIn m)) after → X) → X
-  by-law f g =
-      ⊎-elim (λ e. f (d .answered ∙ ap (λ (x : Act (Unit {0})). x .0) e) (d .memory ∙ ap (λ (x : Act (Unit {0})). x .1) e))
-      (λ o. let z : after ≡ o .later = d .memory ∙ ap (λ (x : Act (Unit {0})). x .1) (o .is) in
-      g (d .answered ∙ ap (λ (x : Act (Unit {0})). x .0) (o .is))
-      (subst (Turned m (replaced (p - k) p (decode piece) (textIn m))) (sym z)
-      (turned m (o .later) (nOf m) (o .new) (replaced (p - k) p (decode piece) (textIn m)) (o .held) (o .chars) (o .kept))))
+module _ (m : List ℕ) (p k : ℕ) (piece : List ℕ) (w : Puts m p piece) (way : (piece ≡ []) ⊎ (k ≡ 0)) (r : Truth) (after : List ℕ)
+    (d : Did truth (insideAt m p k piece) r after) where
+  pub inside-tried : Tried m (replaced (p - k) p (decode piece) (textIn m)) r after
+  inside-tried =
+      ⊎-elim
+      (λ e. record { done = false; told = d .answered ∙ ap (λ (x : Act Bool). x .0) e; left = d .memory ∙ ap (λ (x : Act Bool). x .1) e })
+      (λ o. let z : after ≡ o .later = d .memory ∙ ap (λ (x : Act Bool). x .1) (o .is) in
+      record {
+        done = true;
+        told = d .answered ∙ ap (λ (x : Act Bool). x .0) (o .is);
+        left = subst (Turned m (replaced (p - k) p (decode piece) (textIn m))) (sym z)
+            (turned m (o .later) (nOf m) (o .new) (replaced (p - k) p (decode piece) (textIn m)) (o .held) (o .chars) (o .kept));
+      })
       (inside-held m (nOf m) (noteBytes m) (w .holds) p k piece (w .valid) (w .short) way (w .room) (w .here))
 
-  pub inside-not : (q : Refusal) → r ≡ Verdict·case.Refused q → after ≡ m
-  inside-not q e = by-law (λ a s. s) (λ a t. absurd (let z : refused (refusalNumber q) ≡ value tt = sym (ap verdict e) ∙ a in let y : _≡_ {A = ℕ} 0 1 = cc in omega arith))
-
-  pub inside-done : r ≡ Verdict·case.Accepted → Turned m (replaced (p - k) p (decode piece) (textIn m)) after
-  inside-done e = by-law (λ a s. absurd (let z : value tt ≡ refused 12 = sym (ap verdict e) ∙ a in let y : _≡_ {A = ℕ} 0 1 = cc in omega arith)) (λ a t. t)
-
 -- what the answer says of it
-module _ (m cs : List ℕ) (t : Bool) (after : List ℕ) (p : Tried m cs t after) where
-  pub was-done : t ≡ true → Turned m cs after
-  was-done e = subst (λ (x : Bool). Tried m cs x after) e p
+module _ (m cs : List ℕ) (r : Truth) (after : List ℕ) (p : Tried m cs r after) where
+  pub tried-never : {X : Type 0} (q : Refusal) → r ≡ Truth·case.Refused q → X
+  tried-never q e = absurd (let z : refused (refusalNumber q) ≡ value (p .done) = sym (ap truth e) ∙ p .told in let y : _≡_ {A = ℕ} 0 1 = cc in omega arith)
 
-  pub was-not : t ≡ false → after ≡ m
-  was-not e = subst (λ (x : Bool). Tried m cs x after) e p
+  module _ (t : Bool) (e : r ≡ Truth·case.Is t) where
+    done-is : p .done ≡ t
+    done-is = let z : value (p .done) ≡ value t = sym (p .told) ∙ ap truth e in cc
+
+    pub was-done : t ≡ true → Turned m cs after
+    was-done f = subst (λ (x : Bool). TurnedIf x m cs after) (done-is ∙ f) (p .left)
+
+    pub was-not : t ≡ false → after ≡ m
+    was-not f = subst (λ (x : Bool). TurnedIf x m cs after) (done-is ∙ f) (p .left)
 
 -- as an insertion, and as a removal
 pub inside-put : (m : List ℕ) (p : ℕ) (piece after : List ℕ) → Turned m (replaced (p - 0) p (decode piece) (textIn m)) after → Turned m (putIn p (decode piece) (textIn m)) after

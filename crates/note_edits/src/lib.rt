@@ -1,5 +1,7 @@
-// The note edited: a piece put in, and a part taken out. Marks and edit number stay as they are.
+// The note edited: a piece put in, and a part taken out. Marks and edit number stay as they are. The steps inside ask for a memory that holds a note, and
+// are then accepted; what they answer is passed up all the same.
 use answer::Number;
+use answer::Truth;
 use answer::Verdict;
 use child_search::Measure;
 use edit_rules::insert_refusal;
@@ -20,7 +22,9 @@ ghost use lib.ListN.{length, take, drop};
 ghost use Rattle.plain.specs.Utf8.{decode};
 ghost use Rattle.plain.specs.Count.{crLast, lfFirst};
 ghost use Rattle.plain.specs.Edit.{replaced, putIn, cutOut};
+ghost use Rattle.plain.specs.Outcome.{Outcome.value};
 ghost use Rattle.plain_note.specs.Edits.{inserted, removed};
+ghost use Rattle.answer.specs.Answers.{verdict};
 ghost use Rattle.note_head.specs.Head.{rootOf};
 ghost use Rattle.held.specs.Held.{Holds};
 ghost use Rattle.edited.specs.Edited.{Edited};
@@ -76,37 +80,39 @@ fn side(m: &[u8], p: usize) -> Measure
 }
 
 // k chars before a place give way to a piece at once, if they lie inside one leaf: whether they did.
-fn inside(m: &mut [u8], p: usize, k: usize, piece: &[u8]) -> bool
+fn inside(m: &mut [u8], p: usize, k: usize, piece: &[u8]) -> Truth
     requires { ⌜ Puts (now m) p (now piece) × ((now piece ≡ []) ⊎ (k ≡ 0)) ⌝ }
     ensures { λ r. ⌜ Tried (now (m .entry)) (replaced (p - k) p (decode (now (piece .entry))) (textIn (now (m .entry)))) r (now (m .exit)) ⌝ }
 {
-    match splice_inside(m, p, k, piece) {
-        Verdict::Refused(_) => false,
-        Verdict::Accepted => true,
-    }
+    splice_inside(m, p, k, piece)
 }
 
 // A piece put in where CR and LF around the place decide on the leaf.
-fn insert_beside(m: &mut [u8], p: usize, piece: &[u8])
+fn insert_beside(m: &mut [u8], p: usize, piece: &[u8]) -> Verdict
     requires { ⌜ Puts (now m) p (now piece) ⌝ }
-    ensures { λ _. ⌜ Turned (now (m .entry)) (putIn p (decode (now (piece .entry))) (textIn (now (m .entry)))) (now (m .exit)) ⌝ }
+    ensures { λ r. ⌜ (verdict r ≡ value tt) × Turned (now (m .entry)) (putIn p (decode (now (piece .entry))) (textIn (now (m .entry)))) (now (m .exit)) ⌝ }
 {
     let by = side(m, p);
-    put_in(m, by, p, piece);
+    put_in(m, by, p, piece)
 }
 
 // A piece put into the note's part of the memory.
-fn insert_own(m: &mut [u8], p: usize, piece: &[u8])
+fn insert_own(m: &mut [u8], p: usize, piece: &[u8]) -> Verdict
     requires { ⌜ Puts (now m) p (now piece) ⌝ }
-    ensures { λ _. ⌜ Turned (now (m .entry)) (putIn p (decode (now (piece .entry))) (textIn (now (m .entry)))) (now (m .exit)) × (now (piece .entry) ≡ [] → now (m .exit) ≡ now (m .entry)) ⌝ }
+    ensures { λ r. ⌜ (verdict r ≡ value tt) × Turned (now (m .entry)) (putIn p (decode (now (piece .entry))) (textIn (now (m .entry)))) (now (m .exit)) × (now (piece .entry) ≡ [] → now (m .exit) ≡ now (m .entry)) ⌝ }
 {
     if piece.len() == 0 {
-        return;
+        return Verdict::Accepted;
     }
-    if inside(m, p, 0, piece) {
-        return;
+    match inside(m, p, 0, piece) {
+        Truth::Refused(r) => Verdict::Refused(r),
+        Truth::Is(done) => {
+            if done {
+                return Verdict::Accepted;
+            }
+            insert_beside(m, p, piece)
+        }
     }
-    insert_beside(m, p, piece);
 }
 
 // A piece put in at a place: how many lines more the note has.
@@ -119,58 +125,74 @@ pub fn insert(m: &mut [u8], p: usize, piece: &[u8]) -> Change
         Verdict::Accepted => {
             let before = breaks_of(m);
             let end = need(m);
-            insert_own(&mut m[..end], p, piece);
-            Change::By(difference(before, breaks_of(m)))
+            match insert_own(&mut m[..end], p, piece) {
+                Verdict::Refused(r) => Change::Refused(r),
+                Verdict::Accepted => Change::By(difference(before, breaks_of(m))),
+            }
         }
     }
 }
 
 // [s, e) taken out leaf by leaf, from the back.
-fn cut(m: &mut [u8], s: usize, e: usize)
+fn cut(m: &mut [u8], s: usize, e: usize) -> Verdict
     requires { ⌜ Cuts (now m) s e ⌝ }
-    ensures { λ _. ⌜ Turned (now (m .entry)) (cutOut s e (textIn (now (m .entry)))) (now (m .exit)) ⌝ }
+    ensures { λ r. ⌜ (verdict r ≡ value tt) × Turned (now (m .entry)) (cutOut s e (textIn (now (m .entry)))) (now (m .exit)) ⌝ }
 {
     let mut end = e;
     while s < end {
-        let Number::Is(c) = take_out(m, end, end - s) else {
-            return;
-        };
-        end = end - c;
+        match take_out(m, end, end - s) {
+            Number::Refused(r) => {
+                return Verdict::Refused(r);
+            }
+            Number::Is(c) => {
+                end = end - c;
+            }
+        }
     }
+    Verdict::Accepted
 }
 
 // [s, e) taken out leaf by leaf. Where an LF follows, a CR stands before that meanwhile; it stays where a CR lies before s, in the place of that one.
-fn remove_over(m: &mut [u8], s: usize, e: usize)
+fn remove_over(m: &mut [u8], s: usize, e: usize) -> Verdict
     requires { ⌜ Removes (now m) s e × (s < e) ⌝ }
-    ensures { λ _. ⌜ Turned (now (m .entry)) (cutOut s e (textIn (now (m .entry)))) (now (m .exit)) ⌝ }
+    ensures { λ r. ⌜ (verdict r ≡ value tt) × Turned (now (m .entry)) (cutOut s e (textIn (now (m .entry)))) (now (m .exit)) ⌝ }
 {
     if !at_lf(m, e) {
-        cut(m, s, e);
-        return;
+        return cut(m, s, e);
     }
     let guard: [u8; 1] = [13; 1];
-    insert_own(m, e, &guard);
+    let put = insert_own(m, e, &guard);
+    let Verdict::Accepted = put else {
+        return put;
+    };
     if behind_cr(m, s) {
-        cut(m, s - 1, e);
-        return;
+        return cut(m, s - 1, e);
     }
-    cut(m, s, e);
-    cut(m, s, s + 1);
+    let left = cut(m, s, e);
+    let Verdict::Accepted = left else {
+        return left;
+    };
+    cut(m, s, s + 1)
 }
 
 // [s, e) taken out of the note's part of the memory.
-fn remove_own(m: &mut [u8], s: usize, e: usize)
+fn remove_own(m: &mut [u8], s: usize, e: usize) -> Verdict
     requires { ⌜ Removes (now m) s e ⌝ }
-    ensures { λ _. ⌜ Turned (now (m .entry)) (cutOut s e (textIn (now (m .entry)))) (now (m .exit)) × (s ≡ e → now (m .exit) ≡ now (m .entry)) ⌝ }
+    ensures { λ r. ⌜ (verdict r ≡ value tt) × Turned (now (m .entry)) (cutOut s e (textIn (now (m .entry)))) (now (m .exit)) × (s ≡ e → now (m .exit) ≡ now (m .entry)) ⌝ }
 {
     if s == e {
-        return;
+        return Verdict::Accepted;
     }
     let empty: [u8; 1] = [0; 1];
-    if inside(m, e, e - s, &empty[..0]) {
-        return;
+    match inside(m, e, e - s, &empty[..0]) {
+        Truth::Refused(r) => Verdict::Refused(r),
+        Truth::Is(done) => {
+            if done {
+                return Verdict::Accepted;
+            }
+            remove_over(m, s, e)
+        }
     }
-    remove_over(m, s, e);
 }
 
 // The chars of [s, e) taken out.
@@ -183,8 +205,10 @@ pub fn remove(m: &mut [u8], s: usize, e: usize) -> Change
         Verdict::Accepted => {
             let before = breaks_of(m);
             let end = need(m);
-            remove_own(&mut m[..end], s, e);
-            Change::By(difference(before, breaks_of(m)))
+            match remove_own(&mut m[..end], s, e) {
+                Verdict::Refused(r) => Change::Refused(r),
+                Verdict::Accepted => Change::By(difference(before, breaks_of(m))),
+            }
         }
     }
 }

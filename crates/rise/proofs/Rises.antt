@@ -21,7 +21,7 @@ use Rattle.tree.proofs.Lists.{sum-cons, sum-none}
 use Rattle.tree.proofs.Sound.{list-uses}
 use Rattle.tree.proofs.Frame.{KeptAll}
 use Rattle.merge.specs.Join.{AllFit}
-use Rattle.edits.specs.Made.{Made, Made.same, Made.split, Made.small, sized}
+use Rattle.edits.specs.Made.{Made, Made.same, Made.split, Made.small, Made.apart, sized}
 use Rattle.edits.specs.Acts.{settled, onward}
 use Rattle.became.specs.Became.{usesAll, bytesAll, Became}
 use Rattle.became.specs.Grown.{kid, MadeIs}
@@ -227,3 +227,4 @@ pub rise-makes : (m a : List ℕ) (n g d p i : ℕ) (pre : List Kid) (k : Kid) (
 rise-makes m a n g d p i pre k post t (same info) r at = same-rises m a n g d p i pre k post t at info r
 rise-makes m a n g d p i pre k post t (split info v other) r at = split-rises m a n g d p i pre k post t at info v other r
 rise-makes m a n g d p i pre k post t (small info) r at = small-rises m a n g d p i pre k post t at info r
+rise-makes m a n g d p i pre k post t apart r at = absurd (r .edited)

@@ -9,7 +9,7 @@ use Rattle.answer.specs.declared.Refusal.{Refusal}
 use Rattle.text_info.specs.declared.TextInfo.{TextInfo}
 use Rattle.edits.specs.declared.Edit.{Edit}
 use Rattle.edits.specs.declared.Edit.the-variants as Edit·case
-use Rattle.edits.specs.Made.{Made, Made.same, Made.split, Made.small, edit, Stepped}
+use Rattle.edits.specs.Made.{Made, Made.same, Made.split, Made.small, Made.apart, edit, Stepped}
 use Rattle.edits.specs.Acts.{Act, settled, reading, Did}
 use Rattle.list_step.specs.Steps.{onePut, twoPut}
 use Rattle.mend_step.specs.Mended.{mended}
@@ -46,6 +46,9 @@ module _ (m : List ℕ) (p i : ℕ) (info : TextInfo) (r : Edit) (l : List ℕ) 
   small-split a v b e =
       act-as (smallPut m p i info) (value (split a v b), l) (Edit·case.Split a v b) l (small-by (value (split a v b)) (ap edit e)) (record { answered = refl; memory = refl })
 
+  pub small-apart : r ≡ Edit·case.Apart → Did edit (smallPut m p i info) Edit·case.Apart l
+  small-apart e = act-as (smallPut m p i info) (value apart, l) Edit·case.Apart l (small-by (value apart) (ap edit e)) (record { answered = refl; memory = refl })
+
   pub small-refused : (q : Refusal) → r ≡ Edit·case.Refused q → Did edit (smallPut m p i info) (Edit·case.Refused q) l
   small-refused q e =
       act-as (smallPut m p i info) (refused (refusalNumber q), l) (Edit·case.Refused q) l (small-by (refused (refusalNumber q)) (ap edit e)) (record { answered = refl; memory = refl })
@@ -68,6 +71,10 @@ module _ (m : List ℕ) (p i : ℕ) (made : Edit) where
   pub rise-small : (info : TextInfo) (r : Edit) (after : List ℕ) → made ≡ Edit·case.Small info → Did edit (smallPut m p i info) r after → Did edit (risenBy m p i (edit made)) r after
   unfolding risen
   rise-small info r after e d = by (value (small info)) (ap edit e) r after d
+
+  pub rise-apart : made ≡ Edit·case.Apart → Did edit (risenBy m p i (edit made)) Edit·case.Apart m
+  unfolding risen
+  rise-apart e = by (value apart) (ap edit e) Edit·case.Apart m (record { answered = refl; memory = refl })
 
   pub rise-refused : (q : Refusal) → made ≡ Edit·case.Refused q → Did edit (risenBy m p i (edit made)) (Edit·case.Refused q) m
   rise-refused q e = by (refused (refusalNumber q)) (ap edit e) (Edit·case.Refused q) m (record { answered = refl; memory = refl })

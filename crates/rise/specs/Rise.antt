@@ -4,7 +4,7 @@ use mathlib.Core.List.{List}
 use Prim.Native.Nat.{ℕ, _-_}
 use Rattle.plain.specs.Outcome.{Outcome, Outcome.value}
 use Rattle.text_info.specs.declared.TextInfo.{TextInfo}
-use Rattle.edits.specs.Made.{Made, Made.same, Made.split, Made.small}
+use Rattle.edits.specs.Made.{Made, Made.same, Made.split, Made.small, Made.apart}
 use Rattle.edits.specs.Acts.{Act, settled, reading, onward}
 use Rattle.list_step.specs.Steps.{onePut, twoPut}
 use Rattle.mend_step.specs.Mended.{mended}
@@ -14,6 +14,7 @@ abbrev pub joinedSmall : List ℕ → ℕ → ℕ → Made → Act Made
 joinedSmall m p i (same all) = settled m (mended m p (i - 1) all)
 joinedSmall m p i (small all) = settled m (mended m p (i - 1) all)
 joinedSmall m p i (split a v b) = (value (split a v b), m)
+joinedSmall m p i apart = (value apart, m)
 
 unfoldable pub smallPut : List ℕ → ℕ → ℕ → TextInfo → Act Made
 unfolding onePut mended
@@ -25,6 +26,7 @@ unfolding onePut twoPut smallPut
 risen m p i (same info) = settled m (onePut m p i info)
 risen m p i (split info right other) = settled m (twoPut m p i info right other)
 risen m p i (small info) = smallPut m p i info
+risen m p i apart = (value apart, m)
 
 -- the same of an edit that may have been refused
 abbrev pub risenBy : List ℕ → ℕ → ℕ → Outcome Made → Act Made

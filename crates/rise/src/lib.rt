@@ -29,6 +29,7 @@ fn join_small(m: &mut [u8], slot: usize, idx: usize, info: TextInfo) -> Edit
         Edit::Same(all) => mend(m, slot, before(idx), all),
         Edit::Small(all) => mend(m, slot, before(idx), all),
         Edit::Split(left, right, other) => Edit::Split(left, right, other),
+        Edit::Apart => Edit::Apart,
         Edit::Refused(r) => Edit::Refused(r),
     }
 }
@@ -41,6 +42,7 @@ pub fn rise(m: &mut [u8], slot: usize, idx: usize, made: Edit) -> Edit
         Edit::Same(info) => put_one(m, slot, idx, info),
         Edit::Split(info, right, other) => put_two(m, slot, idx, info, right, other),
         Edit::Small(info) => join_small(m, slot, idx, info),
+        Edit::Apart => Edit::Apart,
         Edit::Refused(r) => Edit::Refused(r),
     }
 }

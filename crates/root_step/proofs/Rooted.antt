@@ -23,7 +23,7 @@ use Rattle.tree.proofs.Sound.{list-bytes, list-uses, children-length, ListSound
 use Rattle.tree.proofs.Frame.{hit-self, Kept as KeptBelow, kept as kept-below, KeptAll, kept-all}
 use Rattle.note_head.specs.Head.{rootOf, heightOf, freeOf}
 use Rattle.memory.specs.Formed.{inTree}
-use Rattle.edits.specs.Made.{Made, Made.same, Made.split, Made.small}
+use Rattle.edits.specs.Made.{Made, Made.same, Made.split, Made.small, Made.apart}
 use Rattle.became.specs.Became.{usesAll, bytesAll, free, spare, Became}
 use Rattle.became.specs.Grown.{Grown, Shrunk, kid, MadeIs}
 use Rattle.slots.specs.Slots.{takenMemory, givenMemory}
@@ -155,14 +155,14 @@ module _ (m a : List ℕ) (n d : ℕ) (t new : List ℕ) (w : Held m n t) (small
       node-uses : (x : ℕ) → uses a (suc g) s x ≡ hit s x + uses a g (child .slot) x
       node-uses x = list-uses a s g x ∙ ap (λ (ks : List Kid). hit s x + usesAll a g ks x) children ∙ ap (λ (j : ℕ). hit s x + j) (one-used a g child x)
 
-      apart : (x : ℕ) → hit s x + uses a g (child .slot) x + free a n x ≤ 1
-      apart x = omega (arith, once (suc g) high (whom ∷ []) b x, one-used a (suc g) whom x, node-uses x)
+      alone : (x : ℕ) → hit s x + uses a g (child .slot) x + free a n x ≤ 1
+      alone x = omega (arith, once (suc g) high (whom ∷ []) b x, one-used a (suc g) whom x, node-uses x)
 
       inside : s < n
       inside = omega (arith, node-there a (suc g) 0 (suc g) s (z .good), b .slotted .long)
 
       not-free : free a n s ≡ 0
-      not-free = omega (arith, apart s, hit-self s)
+      not-free = omega (arith, alone s, hit-self s)
 
       abbrev left : List ℕ
       left = givenMemory a s
@@ -174,7 +174,7 @@ module _ (m a : List ℕ) (n d : ℕ) (t new : List ℕ) (w : Held m n t) (small
       long = gift .slotted .long ∙ sym (b .slotted .long)
 
       same-child : KeptBelow a left long g (child .slot)
-      same-child = kept-below a left long g (child .slot) (λ x u. gift .others x (λ q. omega (arith, apart x, ap (hit s) q ∙ hit-self s)))
+      same-child = kept-below a left long g (child .slot) (λ x u. gift .others x (λ q. omega (arith, alone x, ap (hit s) q ∙ hit-self s)))
 
       told-child : toldRight left g child ≡ true
       unfolding toldRight
@@ -320,3 +320,4 @@ pub root-held : (m a : List ℕ) (n d : ℕ) (t new : List ℕ) (made : Made) �
 root-held m a n d t new (same i) w g room l f = same-held m a n d t new w l (heightOf m) refl i g
 root-held m a n d t new (split i v j) w g room l f = split-held m a n d t new w l room (heightOf m) refl i v j g
 root-held m a n d t new (small i) w g room l f = small-held m a n d t new w l (heightOf m) refl i g f
+root-held m a n d t new apart w g room l f = absurd g

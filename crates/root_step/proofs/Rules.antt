@@ -340,5 +340,9 @@ module _ (m : List ℕ) (x : Edit) (k : Kid) (root : k ≡ rootOf m) where
   unfolding rooted
   root-split i v j e = ap (λ (y : Edit). rootedBy m (edit y)) e ∙ ap (λ (r : Kid). grown m (kid (r .slot) i) v j) (sym root)
 
+  pub root-apart : x ≡ Edit·case.Apart → rootedBy m (edit x) ≡ (value tt, m)
+  unfolding rooted
+  root-apart e = ap (λ (y : Edit). rootedBy m (edit y)) e
+
   pub root-refused : (q : Refusal) → x ≡ Edit·case.Refused q → rootedBy m (edit x) ≡ (refused (refusalNumber q), m)
   root-refused q e = ap (λ (y : Edit). rootedBy m (edit y)) e

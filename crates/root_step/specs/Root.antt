@@ -13,7 +13,7 @@ use Rattle.node_children.specs.Kids.{listOf}
 use Rattle.nodes.specs.Node.{isList, childrenOf, tooWide, narrowed, totalOf, listPut}
 use Rattle.note_head.specs.Head.{rootOf, heightOf}
 use Rattle.head_write.specs.Writes.{noHead, rootPut, heightPut}
-use Rattle.edits.specs.Made.{Made, Made.same, Made.split, Made.small}
+use Rattle.edits.specs.Made.{Made, Made.same, Made.split, Made.small, Made.apart}
 use Rattle.edits.specs.Acts.{Act, reading}
 use Rattle.became.specs.Grown.{kid}
 use Rattle.slots.specs.Slots.{taken, given}
@@ -54,13 +54,14 @@ unfoldable pub shrunk : List ℕ → ℕ → TextInfo → Act (Unit {0})
 unfolding only gaveWay topPut
 shrunk m s info = cond (only m s) (gaveWay m s (getD (childrenOf m s) 0 noKid) (heightOf m)) (topPut m (kid s info) (heightOf m))
 
--- ── the call ──
+-- ── the call: the head stays as it is where nothing was made ──
 
 unfoldable pub rooted : List ℕ → Made → Act (Unit {0})
 unfolding grown shrunk topPut
 rooted m (same info) = topPut m (kid (rootOf m .slot) info) (heightOf m)
 rooted m (split info v other) = grown m (kid (rootOf m .slot) info) v other
 rooted m (small info) = shrunk m (rootOf m .slot) info
+rooted m apart = (value tt, m)
 
 -- the same of an edit that may have been refused
 abbrev pub rootedBy : List ℕ → Outcome Made → Act (Unit {0})

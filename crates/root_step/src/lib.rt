@@ -117,7 +117,7 @@ fn shrink(m: &mut [u8], slot: u32, info: TextInfo) -> Verdict
     give_way(m, place(slot), list.arr[0], h)
 }
 
-// The root became what an edit made of it.
+// The root became what an edit made of it; where it made nothing the head stays as it is.
 pub fn put_root(m: &mut [u8], made: Edit) -> Verdict
     ensures { λ r. ⌜ Did verdict (rootedBy (now (m .entry)) (edit made)) r (now (m .exit)) ⌝ }
 {
@@ -139,6 +139,7 @@ pub fn put_root(m: &mut [u8], made: Edit) -> Verdict
             };
             grow(m, left, right, other)
         }
+        Edit::Apart => Verdict::Accepted,
         Edit::Refused(r) => Verdict::Refused(r),
     }
 }

@@ -7,9 +7,10 @@ use native.Mathlib.Omega.{arith}
 use borrow.Author.Tests.{lt-ltb, le-ltb}
 use Rattle.plain.specs.Outcome.{Outcome, Outcome.value}
 use Rattle.plain.proofs.Logic.{cut}
-use Rattle.answer.specs.Answers.{number, verdict}
+use Rattle.answer.specs.Answers.{number, truth, verdict}
 use Rattle.answer.specs.declared.Refusal.{Refusal}
 use Rattle.answer.specs.declared.Number.the-variants as Number·case
+use Rattle.answer.specs.declared.Truth.the-variants as Truth·case
 use Rattle.answer.specs.declared.Verdict.{Verdict}
 use Rattle.answer.specs.declared.Verdict.the-variants as Verdict·case
 use Rattle.text_info.specs.declared.TextSum.{TextSum}
@@ -25,10 +26,10 @@ use Rattle.edits.specs.declared.Edit.{Edit}
 use Rattle.edits.specs.Made.{Made, edit}
 use Rattle.edits.specs.Acts.{Act, reading, onward, Did}
 use Rattle.descent.specs.declared.Part.{Part}
-use Rattle.descent.specs.declared.Part.the-variants.{Bytes}
+use Rattle.descent.specs.declared.Part.the-variants.{Bytes, Inside}
 use Rattle.descent.specs.Descent.{editedAt}
 use Rattle.root_step.specs.Root.{rootedBy}
-use Rattle.splices.specs.Splices.{spliced, byteAt, inner, putAt, lesser, takenOut, cutAt}
+use Rattle.splices.specs.Splices.{rootedAfter, descended, spliced, lay, insideAt, byteAt, inner, putAt, lesser, takenOut, cutAt}
 
 -- ── the lesser of two ──
 
@@ -51,14 +52,17 @@ rooted-done o made mid r after d f =
     subst (λ (a : Act (Unit {0})). Did verdict a r after) e f
 
 module _ (m : List ℕ) (by : Measure) (at : ℕ) where
-  pub splice-done : (part : Part) (piece : List ℕ) (k : Kid) (h s : ℕ) (made : Edit) (mid : List ℕ) (r : Verdict) (after : List ℕ)
-      → k ≡ rootOf m → h ≡ heightOf m → s ≡ k .slot → Did edit (editedAt m h s by at part piece) made mid → Did verdict (rootedBy mid (edit made)) r after
-      → Did verdict (spliced m by at part piece) r after
-  unfolding spliced
-  splice-done part piece k h s made mid r after x y z d f =
-      let w : editedAt m h s by at part piece ≡ editedAt m (heightOf m) (rootOf m .slot) by at part piece
+  pub descend-done : (part : Part) (piece : List ℕ) (k : Kid) (h s : ℕ) (made : Edit) (after : List ℕ)
+      → k ≡ rootOf m → h ≡ heightOf m → s ≡ k .slot → Did edit (editedAt m h s by at part piece) made after → Did edit (descended m by at part piece) made after
+  descend-done part piece k h s made after x y z d =
+      let w : editedAt m h s by at part piece ≡ descended m by at part piece
       = ap (λ (j : ℕ). editedAt m j s by at part piece) y ∙ ap (λ (j : ℕ). editedAt m (heightOf m) j by at part piece) (z ∙ ap (λ (c : Kid). c .slot) x) in
-      rooted-done (editedAt m (heightOf m) (rootOf m .slot) by at part piece) made mid r after (subst (λ (o : Act Made). Did edit o made mid) w d) f
+      subst (λ (o : Act Made). Did edit o made after) w d
+
+  pub splice-done : (part : Part) (piece : List ℕ) (made : Edit) (mid : List ℕ) (r : Verdict) (after : List ℕ)
+      → Did edit (descended m by at part piece) made mid → Did verdict (rootedBy mid (edit made)) r after → Did verdict (spliced m by at part piece) r after
+  unfolding spliced
+  splice-done part piece made mid r after d f = rooted-done (descended m by at part piece) made mid r after d f
 
   -- ── a piece put in ──
 
@@ -80,6 +84,33 @@ module _ (m : List ℕ) (by : Measure) (at : ℕ) where
         let z : spliced m by at (Bytes j j) piece ≡ reading m (spotOf m by at) put
         = ap (λ (n : ℕ). spliced m by at (Bytes n n) piece) w ∙ ap (λ (o : Outcome (ℕ × TextSum)). reading m o put) (sym (ap spot e) ∙ found) in
         subst (λ (a : Act (Unit {0})). Did verdict a v after) z d
+
+-- ── inside one leaf ──
+
+module _ (m : List ℕ) (at k : ℕ) (piece : List ℕ) (made : Edit) (mid : List ℕ) (d : Did edit (descended m CharEnds at (Inside k) piece) made mid)
+    (v : Verdict) (after : List ℕ) (f : Did verdict (rootedBy mid (edit made)) v after) where
+  abbrev o : Act Made
+  o = descended m CharEnds at (Inside k) piece
+
+  -- by what was put into the head
+  told-by : reading after (verdict v) (λ u. (value (lay (edit made)), after)) ≡ insideAt m at k piece
+  told-by =
+      let e = rooted-done o made mid v after d f in
+      ap (λ (l : List ℕ). reading l (verdict v) (λ u. (value (lay (edit made)), l))) (e .memory)
+      ∙ ap (λ (x : Outcome (Unit {0})). reading (rootedAfter o .1) x (λ u. (value (lay (edit made)), rootedAfter o .1))) (e .answered)
+      ∙ ap (λ (x : Outcome Made). reading (rootedAfter o .1) (rootedAfter o .0) (λ u. (value (lay x), rootedAfter o .1))) (d .answered)
+
+  pub inside-refused : (q : Refusal) → v ≡ Verdict·case.Refused q → Did truth (insideAt m at k piece) (Truth·case.Refused q) after
+  inside-refused q h =
+      let z : reading after (verdict (Verdict·case.Refused q)) (λ u. (value (lay (edit made)), after)) ≡ insideAt m at k piece
+      = ap (λ (w : Verdict). reading after (verdict w) (λ u. (value (lay (edit made)), after))) (sym h) ∙ told-by in
+      record { answered = ap (λ (a : Act Bool). a .0) z; memory = ap (λ (a : Act Bool). a .1) z }
+
+  pub inside-told : v ≡ Verdict·case.Accepted → (b : Bool) → b ≡ lay (edit made) → Did truth (insideAt m at k piece) (Truth·case.Is b) after
+  inside-told h b e =
+      let z : reading after (verdict Verdict·case.Accepted) (λ u. (value (lay (edit made)), after)) ≡ insideAt m at k piece
+      = ap (λ (w : Verdict). reading after (verdict w) (λ u. (value (lay (edit made)), after))) (sym h) ∙ told-by in
+      record { answered = ap (λ (x : Bool). value x) e ∙ ap (λ (a : Act Bool). a .0) z; memory = ap (λ (a : Act Bool). a .1) z }
 
 -- ── chars taken out ──
 

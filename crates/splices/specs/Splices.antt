@@ -1,16 +1,16 @@
 -- What an edit of one leaf of the note comes to, from the root down and up again: the answer, and every byte afterwards.
-use mathlib.Core.Bool.{cond}
+use mathlib.Core.Bool.{Bool, true, false, cond}
 use mathlib.Core.List.{List, []}
 use Prim.Native.Nat.{ℕ, _-_}
 use lib.Dec.{ltb}
-use Rattle.plain.specs.Outcome.{Outcome.value}
+use Rattle.plain.specs.Outcome.{Outcome, Outcome.value, Outcome.refused}
 use Rattle.text_info.specs.declared.TextSum.{TextSum}
 use Rattle.child_search.specs.declared.Measure.{Measure}
 use Rattle.child_search.specs.declared.Measure.the-variants.{CharEnds}
 use Rattle.tree_search.specs.Search.{leafAt}
 use Rattle.note_head.specs.Head.{rootOf, heightOf}
 use Rattle.leaf_parts.specs.Parts.{leafText, byteIn, spotOf}
-use Rattle.edits.specs.Made.{Made}
+use Rattle.edits.specs.Made.{Made, Made.same, Made.split, Made.small, Made.apart}
 use Rattle.edits.specs.Acts.{Act, reading, onward}
 use Rattle.descent.specs.declared.Part.{Part}
 use Rattle.descent.specs.declared.Part.the-variants as Part·case
@@ -21,14 +21,28 @@ use Rattle.root_step.specs.Root.{rooted, rootedBy}
 abbrev pub rootedAfter : Act Made → Act (Unit {0})
 rootedAfter o = rootedBy (o .1) (o .0)
 
--- a part of the leaf that an index lies in gives way to a piece
+-- a part of the leaf that an index lies in gives way to a piece: what becomes of the root, and the same put into the head
+abbrev pub descended : List ℕ → Measure → ℕ → Part → List ℕ → Act Made
+descended m by at part piece = editedAt m (heightOf m) (rootOf m .slot) by at part piece
+
 unfoldable pub spliced : List ℕ → Measure → ℕ → Part → List ℕ → Act (Unit {0})
 unfolding editedAt rooted
-spliced m by at part piece = rootedAfter (editedAt m (heightOf m) (rootOf m .slot) by at part piece)
+spliced m by at part piece = rootedAfter (descended m by at part piece)
 
--- k chars before a place give way to a piece, inside one leaf
-abbrev pub insideAt : List ℕ → ℕ → ℕ → List ℕ → Act (Unit {0})
-insideAt m at k piece = spliced m CharEnds at (Part·case.Inside k) piece
+-- whether what was to be edited lay inside one leaf
+abbrev pub lay : Outcome Made → Bool
+lay (value apart) = false
+lay (value (same i)) = true
+lay (value (split i s j)) = true
+lay (value (small i)) = true
+lay (refused n) = true
+
+-- k chars before a place give way to a piece, if they lie inside one leaf: whether they do
+abbrev pub toldInside : Act Made → Act Bool
+toldInside o = onward (rootedAfter o) (λ u l. (value (lay (o .0)), l))
+
+abbrev pub insideAt : List ℕ → ℕ → ℕ → List ℕ → Act Bool
+insideAt m at k piece = toldInside (descended m CharEnds at (Part·case.Inside k) piece)
 
 -- the byte of the leaf r at which its char i begins
 abbrev pub byteAt : List ℕ → ℕ × TextSum → ℕ → ℕ

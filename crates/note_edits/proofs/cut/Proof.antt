@@ -1,5 +1,5 @@
 -- `cut` meets its contract. The loop's invariant: [end, e) is out.
-use mathlib.Core.Path.{_≡_, subst}
+use mathlib.Core.Path.{_≡_, refl, subst}
 use Prim.Native.Nat.{ℕ, _≤_}
 use native.Mathlib.Omega.{arith}
 use borrow.Author.Needs.{needs}
@@ -25,17 +25,17 @@ sub-take-out c = c .before .before .loop .inv .0
 take-out-requires : tie.Need-take-out-requires Inv-loop μ-loop
 take-out-requires c κs = search needs
 
-enum-known-c : tie.Need-enum-known-c Inv-loop μ-loop
-enum-known-c c = search needs
-
-enum-told : tie.Need-enum-told Inv-loop μ-loop
-enum-told c = search needs
+enum-known-r : tie.Need-enum-known-r Inv-loop μ-loop
+enum-known-r c = search needs
 
 same-length : tie.Need-same-length Inv-loop μ-loop
-same-length c = let s = c .before .before .before .before .before .before .before .before .before in turn-refused (s .args .m .now) (s .args .s) (s .args .e) (s .pre) (c .before .before .before .before .before .before .before .loop .end) (c .before .before .before .before .before .before .before .loop .inv .0) (c .before .before .before .before .before .before .before .loop .inv .1) (c .before .before .before .before .before .before .before .loop .m) (c .before .before .before .before .before .before .before .loop .inv .2) (c .before .before .before .before .before .before .loop-test .taken) _ _ (c .before .before .before .before .take-out .ensures) _ (c .enum-told .given .1)
+same-length c = let s = c .before .before .before .before .before .before .before .before .before .before in turn-refused (s .args .m .now) (s .args .s) (s .args .e) (s .pre) (c .before .before .before .before .before .before .before .before .loop .end) (c .before .before .before .before .before .before .before .before .loop .inv .0) (c .before .before .before .before .before .before .before .before .loop .inv .1) (c .before .before .before .before .before .before .before .before .loop .m) (c .before .before .before .before .before .before .before .before .loop .inv .2) (c .before .before .before .before .before .before .before .loop-test .taken) _ _ (c .before .before .before .before .before .take-out .ensures) _ (c .before .r .given .1)
 
 returns : tie.Need-returns Inv-loop μ-loop
-returns c = let s = c .before .before .before .before .before .before .before .before .before in turn-refused (s .args .m .now) (s .args .s) (s .args .e) (s .pre) (c .before .before .before .before .before .before .before .loop .end) (c .before .before .before .before .before .before .before .loop .inv .0) (c .before .before .before .before .before .before .before .loop .inv .1) (c .before .before .before .before .before .before .before .loop .m) (c .before .before .before .before .before .before .before .loop .inv .2) (c .before .before .before .before .before .before .loop-test .taken) _ _ (c .before .before .before .before .take-out .ensures) _ (c .enum-told .given .1)
+returns c = let s = c .before .before .before .before .before .before .before .before .before .before in turn-refused (s .args .m .now) (s .args .s) (s .args .e) (s .pre) (c .before .before .before .before .before .before .before .before .loop .end) (c .before .before .before .before .before .before .before .before .loop .inv .0) (c .before .before .before .before .before .before .before .before .loop .inv .1) (c .before .before .before .before .before .before .before .before .loop .m) (c .before .before .before .before .before .before .before .before .loop .inv .2) (c .before .before .before .before .before .before .before .loop-test .taken) _ _ (c .before .before .before .before .before .take-out .ensures) _ (c .before .r .given .1)
+
+enum-known-c : tie.Need-enum-known-c Inv-loop μ-loop
+enum-known-c c = search needs
 
 sub-end : tie.Need-sub-end Inv-loop μ-loop
 sub-end c =
@@ -65,7 +65,7 @@ returns-2 : tie.Need-returns-2 Inv-loop μ-loop
 returns-2 c =
     let s = c .before .before .before in
     let z : c .before .loop .end ≡ s .args .s = omega (arith, c .before .loop .inv .0) in
-    subst (λ (q : ℕ). Turned (s .args .m .now) (cutOut q (s .args .e) (textIn (s .args .m .now))) (c .before .loop .m)) z (c .before .loop .inv .2)
+    (refl, subst (λ (q : ℕ). Turned (s .args .m .now) (cutOut q (s .args .e) (textIn (s .args .m .now))) (c .before .loop .m)) z (c .before .loop .inv .2))
 
 pub cut-spec : {M : Type 1} → statement M
 cut-spec =
@@ -76,10 +76,10 @@ cut-spec =
     loop-holds
     sub-take-out
     take-out-requires
-    enum-known-c
-    enum-told
+    enum-known-r
     same-length
     returns
+    enum-known-c
     sub-end
     loop-less
     loop-again

@@ -12,6 +12,7 @@ use Rattle.answer.specs.Answers.{verdict}
 use Rattle.edited.specs.Turned.{textIn, Turned, Puts}
 use Rattle.note_head.proofs.Own.{own-front}
 use Rattle.edited.proofs.Promise.{rest-part, own-room, insert-formed, insert-puts, insert-refused, insert-done}
+use Rattle.note_edits.proofs.Steps.{never}
 use Rattle.note_edits.proofs.insert.Statement.{statement}
 use Rattle.note_edits.proofs.insert.Tie as tie
 
@@ -45,6 +46,12 @@ insert-own-requires c κs =
     let a = c .before .before .before .before .before .before .before .before .before .before .before .args in
     subst (λ (l : List ℕ). Puts l (a .p) (a .piece .now)) (sym (own-front (a .m .now) _ (c .before .need .ensures))) (insert-puts (a .m .now) (a .p) (a .piece .now) (sym (ap verdict (c .before .before .before .before .before .enum-told .given .1)) ∙ c .before .before .before .before .before .before .before .insert-refusal .ensures))
 
+enum-known-r : tie.Need-enum-known-r
+enum-known-r c = search needs
+
+enum-told-2 : tie.Need-enum-told-2
+enum-told-2 c = search needs
+
 breaks-of-requires-2 : tie.Need-breaks-of-requires-2
 breaks-of-requires-2 c κs = search needs
 
@@ -63,15 +70,21 @@ same-length-2 : tie.Need-same-length-2
 same-length-2 c = search needs
 
 returns-2 : tie.Need-returns-2
-returns-2 c =
-    let a = c .before .before .before .before .before .before .before .before .before .before .before .before .before .before .before .before .before .args in
-    let later = c .before .before .before .before .before .insert-own .last .0 in
-    let k = c .before .before .before .before .before .before .before .need .ensures in
+returns-2 c = never _ (c .before .before .before .before .before .insert-own .ensures .0) _ (c .before .r .given .1)
+
+same-length-3 : tie.Need-same-length-3
+same-length-3 c = search needs
+
+returns-3 : tie.Need-returns-3
+returns-3 c =
+    let a = c .before .before .before .before .before .before .before .before .before .before .before .before .before .before .before .before .before .before .before .args in
+    let later = c .before .before .before .before .before .before .before .insert-own .last .0 in
+    let k = c .before .before .before .before .before .before .before .before .before .need .ensures in
     let o = own-front (a .m .now) _ k in
-    insert-done (a .m .now) (a .p) (a .piece .now) (sym (ap verdict (c .before .before .before .before .before .before .before .before .before .before .before .enum-told .given .1)) ∙ c .before .before .before .before .before .before .before .before .before .before .before .before .before .insert-refusal .ensures) later
-    (subst (λ (l : List ℕ). Turned l (putIn (a .p) (decode (a .piece .now)) (textIn l)) later) o (c .before .before .before .before .before .insert-own .ensures .0))
-    (subst (λ (l : List ℕ). a .piece .now ≡ [] → later ≡ l) o (c .before .before .before .before .before .insert-own .ensures .1))
-    _ (rest-part (a .m .now) _ k later) _ _ (c .before .before .before .before .before .before .before .before .before .breaks-of .ensures) (c .before .breaks-of2 .ensures) _
+    insert-done (a .m .now) (a .p) (a .piece .now) (sym (ap verdict (c .before .before .before .before .before .before .before .before .before .before .before .before .before .enum-told .given .1)) ∙ c .before .before .before .before .before .before .before .before .before .before .before .before .before .before .before .insert-refusal .ensures) later
+    (subst (λ (l : List ℕ). Turned l (putIn (a .p) (decode (a .piece .now)) (textIn l)) later) o (c .before .before .before .before .before .before .before .insert-own .ensures .1))
+    (subst (λ (l : List ℕ). a .piece .now ≡ [] → later ≡ l) o (c .before .before .before .before .before .before .before .insert-own .ensures .2))
+    _ (rest-part (a .m .now) _ k later) _ _ (c .before .before .before .before .before .before .before .before .before .before .before .breaks-of .ensures) (c .before .breaks-of2 .ensures) _
     (toZ-ofZ w64 (c .difference .result) (record { sfits = c .difference .ok }) ∙ c .difference .ensures)
 
 pub insert-spec : {M : Type 1} → statement M
@@ -86,9 +99,13 @@ insert-spec =
     slice-relend-prefix-insert-own
     slice-aggregate-insert-own
     insert-own-requires
+    enum-known-r
+    enum-told-2
     breaks-of-requires-2
     difference-requires
     same-length
     returns
     same-length-2
-    returns-2)
+    returns-2
+    same-length-3
+    returns-3)

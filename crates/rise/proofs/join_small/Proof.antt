@@ -1,5 +1,5 @@
 -- `join_small` meets its contract: the child put into its list, and joined there.
-use Rattle.rise.proofs.Rules.{mend-same, mend-small, small-split, small-refused}
+use Rattle.rise.proofs.Rules.{mend-same, mend-small, small-split, small-apart, small-refused}
 use borrow.Author.Needs.{needs}
 use Rattle.rise.proofs.join_small.Statement.{statement}
 use Rattle.rise.proofs.join_small.Tie as tie
@@ -27,6 +27,9 @@ mend-requires-2 c κs = search needs
 
 enum-known-put-3 : tie.Need-enum-known-put-3
 enum-known-put-3 c = search needs
+
+enum-told : tie.Need-enum-told
+enum-told c = search needs
 
 enum-known-put-4 : tie.Need-enum-known-put-4
 enum-known-put-4 c = search needs
@@ -63,6 +66,15 @@ same-length-4 c = search needs
 
 returns-4 : tie.Need-returns-4
 returns-4 c =
+    let a = c .before .before .before .before .before .before .before .args in
+    let w = c .before .before .before .before .put-one in
+    small-apart (a .m .now) (a .slot) (a .idx) (a .info) (w .result) _ (w .ensures) (c .enum-told .given .1)
+
+same-length-5 : tie.Need-same-length-5
+same-length-5 c = search needs
+
+returns-5 : tie.Need-returns-5
+returns-5 c =
     let a = c .before .before .before .before .before .before .before .before .args in
     let w = c .before .before .before .before .before .put-one in
     small-refused (a .m .now) (a .slot) (a .idx) (a .info) (w .result) _ (w .ensures) _ (c .before .put4 .given .1)
@@ -79,6 +91,7 @@ join-small-spec =
     before-requires-2
     mend-requires-2
     enum-known-put-3
+    enum-told
     enum-known-put-4
     same-length
     returns
@@ -87,4 +100,6 @@ join-small-spec =
     same-length-3
     returns-3
     same-length-4
-    returns-4)
+    returns-4
+    same-length-5
+    returns-5)

@@ -1,5 +1,5 @@
 -- `rise` meets its contract, by what the edit made of the child.
-use Rattle.rise.proofs.Rules.{rise-same, rise-split, rise-small, rise-refused}
+use Rattle.rise.proofs.Rules.{rise-same, rise-split, rise-small, rise-apart, rise-refused}
 use borrow.Author.Needs.{needs}
 use Rattle.rise.proofs.rise.Statement.{statement}
 use Rattle.rise.proofs.rise.Tie as tie
@@ -21,6 +21,9 @@ enum-known-made-3 c = search needs
 
 join-small-requires : tie.Need-join-small-requires
 join-small-requires c κs = search needs
+
+enum-told : tie.Need-enum-told
+enum-told c = search needs
 
 enum-known-made-4 : tie.Need-enum-known-made-4
 enum-known-made-4 c = search needs
@@ -51,6 +54,11 @@ returns-3 c =
 
 returns-4 : tie.Need-returns-4
 returns-4 c =
+    let a = c .before .before .before .args in
+    rise-apart (a .m .now) (a .slot) (a .idx) (a .made) (c .enum-told .given .1)
+
+returns-5 : tie.Need-returns-5
+returns-5 c =
     let a = c .before .before .before .before .args in
     rise-refused (a .m .now) (a .slot) (a .idx) (a .made) _ (c .before .made4 .given .1)
 
@@ -64,6 +72,7 @@ rise-spec =
     put-two-requires
     enum-known-made-3
     join-small-requires
+    enum-told
     enum-known-made-4
     same-length
     returns
@@ -71,4 +80,5 @@ rise-spec =
     returns-2
     same-length-3
     returns-3
-    returns-4)
+    returns-4
+    returns-5)

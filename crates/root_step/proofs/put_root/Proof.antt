@@ -1,6 +1,6 @@
 -- `put_root` meets its contract, by what the edit made.
 use mathlib.Core.Path.{refl}
-use Rattle.root_step.proofs.Rules.{did-is, did-as, root-same, root-small, root-split, root-refused}
+use Rattle.root_step.proofs.Rules.{did-is, did-as, root-same, root-small, root-split, root-apart, root-refused}
 use borrow.Author.Needs.{needs}
 use Rattle.root_step.proofs.put_root.Statement.{statement}
 use Rattle.root_step.proofs.put_root.Tie as tie
@@ -28,6 +28,9 @@ enum-known-made-3 c = search needs
 
 grow-requires : tie.Need-grow-requires
 grow-requires c κs = search needs
+
+enum-told : tie.Need-enum-told
+enum-told c = search needs
 
 enum-known-made-4 : tie.Need-enum-known-made-4
 enum-known-made-4 c = search needs
@@ -61,6 +64,14 @@ same-length-4 c = search needs
 
 returns-4 : tie.Need-returns-4
 returns-4 c =
+    let a = c .before .before .before .before .before .args in
+    did-is _ _ _ _ _ (root-apart (a .m .now) (a .made) (c .before .before .root .result) (c .before .before .root .ensures) (c .enum-told .given .1)) refl refl
+
+same-length-5 : tie.Need-same-length-5
+same-length-5 c = search needs
+
+returns-5 : tie.Need-returns-5
+returns-5 c =
     let a = c .before .before .before .before .before .before .args in
     did-is _ _ _ _ _ (root-refused (a .m .now) (a .made) (c .before .before .before .root .result) (c .before .before .before .root .ensures) _ (c .before .made4 .given .1)) refl refl
 
@@ -76,6 +87,7 @@ put-root-spec =
     shrink-requires
     enum-known-made-3
     grow-requires
+    enum-told
     enum-known-made-4
     same-length
     returns
@@ -84,4 +96,6 @@ put-root-spec =
     same-length-3
     returns-3
     same-length-4
-    returns-4)
+    returns-4
+    same-length-5
+    returns-5)
