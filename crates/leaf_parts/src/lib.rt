@@ -14,6 +14,7 @@ ghost use Prim.Native.Nat.{_-_, _≤_, _<_};
 ghost use lib.ListN.{length, drop};
 ghost use Rattle.answer.specs.Answers.{number};
 ghost use Rattle.note_head.specs.Head.{rootOf};
+ghost use Rattle.note_head.specs.Part.{PartOf};
 ghost use Rattle.tree_search.specs.Search.{spot, Bounded};
 ghost use Rattle.leaf_parts.specs.Parts.{leafText, byteIn, spotOf, fromChar, fromByte, byteOf};
 
@@ -42,7 +43,7 @@ pub fn chars_of(m: &[u8]) -> usize
 
 // The text of the leaf in a slot; empty where there is none.
 pub fn text_at(m: &[u8], slot: usize) -> &[u8]
-    ensures { λ r. ⌜ (now r ≡ leafText (now (m .entry)) slot) × (length (now r) ≤ 512) ⌝ }
+    ensures { λ r. ⌜ (now r ≡ leafText (now (m .entry)) slot) × (length (now r) ≤ 512) × PartOf r (m .entry) ⌝ }
 {
     let Head::Leaf(n) = head_of(m, slot) else {
         return &m[..0];
@@ -65,7 +66,7 @@ pub fn above(a: usize, b: usize) -> usize
 
 // A text from a byte on; past its end, nothing.
 pub fn behind(text: &[u8], at: usize) -> &[u8]
-    ensures { λ r. ⌜ now r ≡ drop at (now (text .entry)) ⌝ }
+    ensures { λ r. ⌜ (now r ≡ drop at (now (text .entry))) × PartOf r (text .entry) ⌝ }
 {
     if text.len() < at {
         return &text[..0];
@@ -90,7 +91,7 @@ pub fn spot_of(m: &[u8], by: Measure, at: usize) -> Spot
 
 // From a char of the note's text to the end of its leaf.
 pub fn from_char(m: &[u8], at: usize) -> &[u8]
-    ensures { λ r. ⌜ now r ≡ fromChar (now (m .entry)) at ⌝ }
+    ensures { λ r. ⌜ (now r ≡ fromChar (now (m .entry)) at) × PartOf r (m .entry) ⌝ }
 {
     let Spot::At(leaf, left) = spot_of(m, Measure::Chars, at) else {
         return &m[..0];

@@ -9,6 +9,7 @@ ghost use lib.ListN.{getD};
 ghost use Rattle.plain_note.specs.Note as note;
 ghost use Rattle.pool.specs.Big.{twoAt, fourAt};
 ghost use Rattle.note_head.specs.Head.{nOf, editOf, rootOf, heightOf, freeOf, liveAt, placeAt, ownOf};
+ghost use Rattle.note_head.specs.Part.{PartOf};
 
 // Where the numbers of the head lie.
 pub const SLOTS_AT: usize = 0;
@@ -84,7 +85,7 @@ pub fn need(m: &[u8]) -> usize
 
 // The part of the memory that the note has.
 pub fn own_part(m: &[u8]) -> &[u8]
-    ensures { λ r. ⌜ now r ≡ ownOf (now (m .entry)) ⌝ }
+    ensures { λ r. ⌜ (now r ≡ ownOf (now (m .entry))) × PartOf r (m .entry) ⌝ }
 {
     let end = need(m);
     if m.len() < end {

@@ -10,10 +10,12 @@ use leaf_parts::from_char;
 use note_head::own_part;
 use str_indices::chars;
 ghost use mathlib.Core.Path.{_≡_};
+ghost use mathlib.Core.Logic.{_⊎_};
 ghost use Prim.Native.Nat.{_+_};
 ghost use Rattle.plain.specs.Outcome.{mapped, past};
 ghost use Rattle.plain_note.specs.Note.{readFrom, previewed};
 ghost use Rattle.answer.specs.Answers.{verdict};
+ghost use Rattle.note_head.specs.Part.{PartOf};
 ghost use Rattle.memory.specs.Formed.{ofNote};
 ghost use Rattle.runs.specs.Runs.{runOf, frontOf, joinedFrom, previewOf};
 
@@ -32,7 +34,7 @@ pub fn run_refusal(m: &[u8], p: usize) -> Verdict
 
 // The note from a place to the end of the leaf that holds the char there; empty at its end.
 pub fn run(m: &[u8], p: usize) -> &[u8]
-    ensures { λ r. ⌜ now r ≡ runOf (now (m .entry)) p ⌝ }
+    ensures { λ r. ⌜ (now r ≡ runOf (now (m .entry)) p) × PartOf r (m .entry) ⌝ }
 {
     let Verdict::Accepted = run_refusal(m, p) else {
         return &m[..0];
@@ -67,7 +69,7 @@ pub fn preview_refusal(m: &[u8], piece: &[u8], p: usize, q: usize) -> Verdict
 
 // The first n chars of a text.
 fn front(text: &[u8], n: usize) -> &[u8]
-    ensures { λ r. ⌜ now r ≡ frontOf n (now (text .entry)) ⌝ }
+    ensures { λ r. ⌜ (now r ≡ frontOf n (now (text .entry))) × PartOf r (text .entry) ⌝ }
 {
     let k = byte_in(text, n);
     &text[..k]
@@ -76,7 +78,7 @@ fn front(text: &[u8], n: usize) -> &[u8]
 // The joined text from a place to the end of the leaf or of the piece that holds the char there, or to the insertion place if that is
 // behind it and nearer.
 fn joined_from<'a>(m: &'a [u8], piece: &'a [u8], p: usize, q: usize) -> &'a [u8]
-    ensures { λ r. ⌜ now r ≡ joinedFrom (now (m .entry)) p (now (piece .entry)) q ⌝ }
+    ensures { λ r. ⌜ (now r ≡ joinedFrom (now (m .entry)) p (now (piece .entry)) q) × (PartOf r (m .entry) ⊎ PartOf r (piece .entry)) ⌝ }
 {
     if q < p {
         return front(from_char(m, q), p - q);
@@ -91,7 +93,7 @@ fn joined_from<'a>(m: &'a [u8], piece: &'a [u8], p: usize, q: usize) -> &'a [u8]
 
 // The text that an insertion of the piece at p would give, from the place q of it on: a part of the piece or of a leaf.
 pub fn preview<'a>(m: &'a [u8], piece: &'a [u8], p: usize, q: usize) -> &'a [u8]
-    ensures { λ r. ⌜ now r ≡ previewOf (now (m .entry)) p (now (piece .entry)) q ⌝ }
+    ensures { λ r. ⌜ (now r ≡ previewOf (now (m .entry)) p (now (piece .entry)) q) × (PartOf r (m .entry) ⊎ PartOf r (piece .entry)) ⌝ }
 {
     let Verdict::Accepted = preview_refusal(m, piece, p, q) else {
         return &m[..0];

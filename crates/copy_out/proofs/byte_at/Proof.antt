@@ -17,10 +17,10 @@ enum-told : tie.Need-enum-told
 enum-told c = search needs
 
 returns : tie.Need-returns
-returns c = let a = c .before .before .before .before .before .args in absurd (byte-refused (a .m .now) (c .before .before .before .own-part .result .now) (a .p) (c .before .before .before .before .before .pre .0) (c .before .before .before .before .before .pre .1) (c .before .before .before .own-part .ensures) (c .before .before .byte-of .result) (c .before .before .byte-of .ensures) _ (c .enum-told .given .1))
+returns c = let a = c .before .before .before .before .before .args in absurd (byte-refused (a .m .now) (c .before .before .before .own-part .result .now) (a .p) (c .before .before .before .before .before .pre .0) (c .before .before .before .before .before .pre .1) (c .before .before .before .own-part .ensures .0) (c .before .before .byte-of .result) (c .before .before .byte-of .ensures) _ (c .enum-told .given .1))
 
 returns-2 : tie.Need-returns-2
-returns-2 c = let a = c .before .before .before .before .before .before .args in byte-is (a .m .now) (c .before .before .before .before .own-part .result .now) (a .p) (c .before .before .before .before .before .before .pre .0) (c .before .before .before .before .before .before .pre .1) (c .before .before .before .before .own-part .ensures) (c .before .before .before .byte-of .result) (c .before .before .before .byte-of .ensures) _ (c .before .b .given .1)
+returns-2 c = let a = c .before .before .before .before .before .before .args in byte-is (a .m .now) (c .before .before .before .before .own-part .result .now) (a .p) (c .before .before .before .before .before .before .pre .0) (c .before .before .before .before .before .before .pre .1) (c .before .before .before .before .own-part .ensures .0) (c .before .before .before .byte-of .result) (c .before .before .before .byte-of .ensures) _ (c .before .b .given .1)
 
 pub byte-at-spec : {M : Type 1} → statement M
 byte-at-spec =

@@ -17,13 +17,13 @@ sub-n : tie.Need-sub-n
 sub-n c = search needs
 
 returns : tie.Need-returns
-returns c = let a = c .before .before .before .before .args in upto-all (a .m .now) (c .before .before .own-part .result .now) (a .i) (a .b) (c .before .before .own-part .ensures) _ (c .before .from-byte .ensures) (c .if1 .taken)
+returns c = let a = c .before .before .before .before .args in upto-all (a .m .now) (c .before .before .own-part .result .now) (a .i) (a .b) (c .before .before .own-part .ensures .0) _ (c .before .from-byte .ensures) (c .if1 .taken)
 
 slice-aggregate-result : tie.Need-slice-aggregate-result
 slice-aggregate-result c = sym (length-take-le _ (c .before .before .from-byte .result .now) (omega arith))
 
 returns-2 : tie.Need-returns-2
-returns-2 c = let a = c .before .before .before .before .before .args in upto-cut (a .m .now) (c .before .before .before .own-part .result .now) (a .i) (a .b) (c .before .before .before .own-part .ensures) _ (c .before .before .from-byte .ensures)
+returns-2 c = let a = c .before .before .before .before .before .args in upto-cut (a .m .now) (c .before .before .before .own-part .result .now) (a .i) (a .b) (c .before .before .before .own-part .ensures .0) _ (c .before .before .from-byte .ensures)
 
 pub upto-spec : {M : Type 1} → statement M
 upto-spec =

@@ -37,7 +37,7 @@ returns-2 c =
     let f = t .before .before in
     let a = f .before .before .before .args in
     none-behind (a .m .now) (a .slot) (a .at) (a .k) (a .piece .now) (f .if1 .left) (t .text-at .result .now) (t .text-at .ensures .0) _
-    (end-is (t .text-at .result .now) (a .at) (a .k) (f .if1 .left) _ (i .byte-in .ensures .0) (b .behind .result .now) (b .behind .ensures) _ (j .byte-in2 .ensures .0)) (c .if2 .taken)
+    (end-is (t .text-at .result .now) (a .at) (a .k) (f .if1 .left) _ (i .byte-in .ensures .0) (b .behind .result .now) (b .behind .ensures .0) _ (j .byte-in2 .ensures .0)) (c .if2 .taken)
 
 leaf-step-requires : tie.Need-leaf-step-requires
 leaf-step-requires c κs = search needs
@@ -55,7 +55,7 @@ returns-3 c =
     let f = t .before .before in
     let a = f .before .before .before .args in
     some-inside (a .m .now) (a .slot) (a .at) (a .k) (a .piece .now) (f .if1 .left) (t .text-at .result .now) (t .text-at .ensures .0) _
-    (end-is (t .text-at .result .now) (a .at) (a .k) (f .if1 .left) _ (i .byte-in .ensures .0) (b .behind .result .now) (b .behind .ensures) _ (j .byte-in2 .ensures .0)) (g .if2 .left) _ (i .byte-in .ensures .0) _ _ (c .before .before .leaf-step .ensures)
+    (end-is (t .text-at .result .now) (a .at) (a .k) (f .if1 .left) _ (i .byte-in .ensures .0) (b .behind .result .now) (b .behind .ensures .0) _ (j .byte-in2 .ensures .0)) (g .if2 .left) _ (i .byte-in .ensures .0) _ _ (c .before .before .leaf-step .ensures)
 
 pub edit-inside-spec : {M : Type 1} → statement M
 edit-inside-spec =

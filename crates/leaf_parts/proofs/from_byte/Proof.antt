@@ -33,7 +33,7 @@ behind-requires c κs = search needs
 returns-2 : tie.Need-returns-2
 returns-2 c =
     let a = c .before .before .before .before .before .before .before .before .args in
-    bytes-found (a .m .now) (a .at) (c .before .before .before .before .before .before .spot-of .result) _ _ (c .before .before .text-at .result .now) _ (c .before .before .before .before .before .before .spot-of .ensures .0) (c .before .before .before .before .leaf .given .1) (c .before .before .text-at .ensures .0) (c .before .above .ensures) _ (c .behind .ensures)
+    bytes-found (a .m .now) (a .at) (c .before .before .before .before .before .before .spot-of .result) _ _ (c .before .before .text-at .result .now) _ (c .before .before .before .before .before .before .spot-of .ensures .0) (c .before .before .before .before .leaf .given .1) (c .before .before .text-at .ensures .0) (c .before .above .ensures) _ (c .behind .ensures .0)
 
 pub from-byte-spec : {M : Type 1} → statement M
 from-byte-spec =

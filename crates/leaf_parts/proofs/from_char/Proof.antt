@@ -1,5 +1,8 @@
 -- `from_char` meets its contract: the search, and what is left of the leaf.
+use mathlib.Core.Path.{refl}
+use native.Mathlib.Omega.{arith}
 use borrow.Author.Needs.{needs}
+use Rattle.note_head.proofs.Part.{part-of-part}
 use Rattle.leaf_parts.proofs.Found.{chars-none, chars-found}
 use Rattle.leaf_parts.proofs.from_char.Statement.{statement}
 use Rattle.leaf_parts.proofs.from_char.Tie as tie
@@ -19,7 +22,7 @@ slice-aggregate-result c = search needs
 returns : tie.Need-returns
 returns c =
     let a = c .before .before .before .before .before .args in
-    chars-none (a .m .now) (a .at) (c .before .before .before .spot-of .result) _ (c .before .before .before .spot-of .ensures .0) (c .before .enum-told .given .1)
+    (chars-none (a .m .now) (a .at) (c .before .before .before .spot-of .result) _ (c .before .before .before .spot-of .ensures .0) (c .before .enum-told .given .1), record { from = 0; block = refl; offset = omega arith; inside = omega arith })
 
 text-at-requires : tie.Need-text-at-requires
 text-at-requires c κs = search needs
@@ -36,7 +39,7 @@ behind-requires c κs = search needs
 returns-2 : tie.Need-returns-2
 returns-2 c =
     let a = c .before .before .before .before .before .before .before .before .before .args in
-    chars-found (a .m .now) (a .at) (c .before .before .before .before .before .before .before .spot-of .result) _ _ (c .before .before .before .text-at .result .now) _ (c .before .before .before .before .before .before .before .spot-of .ensures .0) (c .before .before .before .before .before .leaf .given .1) (c .before .before .before .text-at .ensures .0) (c .before .before .above .ensures) _ (c .before .byte-in .ensures .0) _ (c .behind .ensures)
+    (chars-found (a .m .now) (a .at) (c .before .before .before .before .before .before .before .spot-of .result) _ _ (c .before .before .before .text-at .result .now) _ (c .before .before .before .before .before .before .before .spot-of .ensures .0) (c .before .before .before .before .before .leaf .given .1) (c .before .before .before .text-at .ensures .0) (c .before .before .above .ensures) _ (c .before .byte-in .ensures .0) _ (c .behind .ensures .0), part-of-part _ _ _ (c .behind .ensures .1) (c .before .before .before .text-at .ensures .2))
 
 pub from-char-spec : {M : Type 1} → statement M
 from-char-spec =

@@ -1,6 +1,10 @@
 -- `text_at` meets its contract: the part of the memory that the head says, or none.
+use mathlib.Core.Path.{refl}
+use Prim.Native.Nat.{_+_}
 use native.Mathlib.Omega.{arith}
+use lib.ListN.{length-take, length-drop}
 use borrow.Author.Needs.{needs}
+use Rattle.pool.specs.Slot.{slotStart}
 use Rattle.pool.proofs.Opened.{region-opened}
 use Rattle.nodes.proofs.Laid.{region-there}
 use Rattle.nodes.proofs.Heads.{head-leaf, head-no-leaf, leaf-says}
@@ -20,7 +24,8 @@ slice-aggregate-result c = search needs
 returns : tie.Need-returns
 returns c =
     let a = c .before .before .before .before .args in
-    no-text (a .m .now) (a .slot) (head-no-leaf (a .m .now) (a .slot) (c .before .before .head-of .result) (c .before .before .head-of .ensures) (c .before .match .keys2))
+    let e = no-text (a .m .now) (a .slot) (head-no-leaf (a .m .now) (a .slot) (c .before .before .head-of .result) (c .before .before .head-of .ensures) (c .before .match .keys2)) in
+    (e .0, e .1, record { from = 0; block = refl; offset = omega arith; inside = omega arith })
 
 region-start-requires : tie.Need-region-start-requires
 region-start-requires c κs = search needs
@@ -63,7 +68,8 @@ returns-3 c =
     let a = c .before .before .before .before .before .before .before .before .before .before .args in
     let h = head-leaf (a .m .now) (a .slot) (c .before .before .before .before .before .before .before .before .head-of .result) (c .before .before .before .before .before .before .before .before .head-of .ensures) _ (c .before .before .before .before .before .before .n .given .1) in
     let o = region-opened (c .before .before .before .before .region-start .result) (a .m .now) (a .slot) _ (c .before .before .before .before .region-start .ensures) (c .before .before .at .given .1) in
-    text-there (a .m .now) (a .slot) _ _ (h .0) (h .1) (h .2) (o .1) (o .0)
+    let e = text-there (a .m .now) (a .slot) _ _ (h .0) (h .1) (h .2) (o .1) (o .0) in
+    (e .0, e .1, record { from = slotStart (a .slot) + 128; block = refl; offset = omega (arith, o .1); inside = simp (length-take, length-drop) (omega (arith, h .2, o .0, o .1)) })
 
 pub text-at-spec : {M : Type 1} → statement M
 text-at-spec =

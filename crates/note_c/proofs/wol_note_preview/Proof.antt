@@ -10,7 +10,7 @@ preview-requires : tie.Need-preview-requires
 preview-requires c κs = search needs
 
 returns : tie.Need-returns
-returns c = (preview-shows _ _ _ _ _ (c .before .preview .ensures) (c .if1 .taken), c .before .preview .ensures)
+returns c = (preview-shows _ _ _ _ _ (c .before .preview .ensures .0) (c .if1 .taken), c .before .preview .ensures .0)
 
 preview-refusal-requires : tie.Need-preview-refusal-requires
 preview-refusal-requires c κs = search needs
@@ -19,7 +19,7 @@ code-of-requires : tie.Need-code-of-requires
 code-of-requires c κs = search needs
 
 returns-2 : tie.Need-returns-2
-returns-2 c = (c .code-of .ensures ∙ (ap code (c .before .preview-refusal .ensures) ∙ mapped-code _ _), c .before .before .before .preview .ensures)
+returns-2 c = (c .code-of .ensures ∙ (ap code (c .before .preview-refusal .ensures) ∙ mapped-code _ _), c .before .before .before .preview .ensures .0)
 
 pub wol-note-preview-spec : {M : Type 1} → statement M
 wol-note-preview-spec = tie.close (tie.spec preview-requires returns preview-refusal-requires code-of-requires returns-2)

@@ -21,14 +21,14 @@ own-part-requires : tie.Need-own-part-requires
 own-part-requires c κs = search needs
 
 converted-in-requires : tie.Need-converted-in-requires
-converted-in-requires c κs = lent-right (c .before .before .before .before .args .m .now) _ (c .before .before .check .ensures) (not-false _ (c .before .if1 .left)) _ (c .own-part .ensures)
+converted-in-requires c κs = lent-right (c .before .before .before .before .args .m .now) _ (c .before .before .check .ensures) (not-false _ (c .before .if1 .left)) _ (c .own-part .ensures .0)
 
 returns-2 : tie.Need-returns-2
 returns-2 c =
     let a = c .before .before .before .before .before .args in
     let yes = not-false _ (c .before .before .if1 .left) in
     c .converted-in .ensures
-    ∙ ap (λ (l : List ℕ). converted (measure (a .from)) (measure (a .to)) (noteIn l) (a .idx)) (c .before .own-part .ensures)
+    ∙ ap (λ (l : List ℕ). converted (measure (a .from)) (measure (a .to)) (noteIn l) (a .idx)) (c .before .own-part .ensures .0)
     ∙ sym (well-formed (a .m .now) _ _ (c .before .before .before .check .ensures) yes)
 
 pub convert-spec : {M : Type 1} → statement M

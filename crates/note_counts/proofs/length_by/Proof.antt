@@ -22,14 +22,14 @@ own-part-requires : tie.Need-own-part-requires
 own-part-requires c κs = search needs
 
 most-requires : tie.Need-most-requires
-most-requires c κs = lent-right (c .before .before .before .before .args .m .now) _ (c .before .before .check .ensures) (not-false _ (c .before .if1 .left)) _ (c .own-part .ensures)
+most-requires c κs = lent-right (c .before .before .before .before .args .m .now) _ (c .before .before .check .ensures) (not-false _ (c .before .if1 .left)) _ (c .own-part .ensures .0)
 
 returns-2 : tie.Need-returns-2
 returns-2 c =
     let a = c .before .before .before .before .before .args in
     let yes = not-false _ (c .before .before .if1 .left) in
     ap (λ (n : ℕ). value n) (c .most .ensures)
-    ∙ ap (λ (l : List ℕ). value (mostBy (measure (a .by)) (noteIn l .text))) (c .before .own-part .ensures)
+    ∙ ap (λ (l : List ℕ). value (mostBy (measure (a .by)) (noteIn l .text))) (c .before .own-part .ensures .0)
     ∙ sym (well-formed (a .m .now) _ _ (c .before .before .before .check .ensures) yes)
 
 pub length-by-spec : {M : Type 1} → statement M

@@ -10,7 +10,7 @@ from-char-requires c κs = search needs
 returns : tie.Need-returns
 returns c =
     let s = c .before .before .before in
-    lf-none (s .args .m .now) (s .pre .0) (s .args .p) (s .pre .1) _ (c .before .from-char .ensures) (c .if1 .taken)
+    lf-none (s .args .m .now) (s .pre .0) (s .args .p) (s .pre .1) _ (c .before .from-char .ensures .0) (c .if1 .taken)
 
 shared-slice-read-result : tie.Need-shared-slice-read-result
 shared-slice-read-result c = search needs
@@ -18,7 +18,7 @@ shared-slice-read-result c = search needs
 returns-2 : tie.Need-returns-2
 returns-2 c =
     let s = c .before .before .before .before in
-    lf-seen (s .args .m .now) (s .pre .0) (s .args .p) (s .pre .1) _ (c .before .before .from-char .ensures) (c .before .if1 .left)
+    lf-seen (s .args .m .now) (s .pre .0) (s .args .p) (s .pre .1) _ (c .before .before .from-char .ensures .0) (c .before .if1 .left)
 
 pub at-lf-spec : {M : Type 1} → statement M
 at-lf-spec = tie.close (tie.spec from-char-requires returns shared-slice-read-result returns-2)

@@ -16,7 +16,7 @@ from-char-requires c κs = search needs
 returns-2 : tie.Need-returns-2
 returns-2 c =
     let s = c .before .before .before .before in
-    cr-filled (s .args .m .now) (s .pre .0) (s .args .p) (s .pre .1) _ (c .before .before .if1 .left) (c .before .from-char .ensures) (c .if2 .taken)
+    cr-filled (s .args .m .now) (s .pre .0) (s .args .p) (s .pre .1) _ (c .before .before .if1 .left) (c .before .from-char .ensures .0) (c .if2 .taken)
 
 shared-slice-read-result : tie.Need-shared-slice-read-result
 shared-slice-read-result c = search needs
@@ -24,7 +24,7 @@ shared-slice-read-result c = search needs
 returns-3 : tie.Need-returns-3
 returns-3 c =
     let s = c .before .before .before .before .before in
-    cr-seen (s .args .m .now) (s .pre .0) (s .args .p) (s .pre .1) _ (c .before .before .before .if1 .left) (c .before .before .from-char .ensures)
+    cr-seen (s .args .m .now) (s .pre .0) (s .args .p) (s .pre .1) _ (c .before .before .before .if1 .left) (c .before .before .from-char .ensures .0)
 
 pub behind-cr-spec : {M : Type 1} → statement M
 behind-cr-spec =

@@ -22,7 +22,7 @@ returns : tie.Need-returns
 returns c =
     let a = c .before .before .before .before .before .args in
     let k = c .before .before .before .chars-of .ensures in (
-      c .from-char .ensures ∙ ap (λ (l : List ℕ). fromChar l (a .p)) (c .before .own-part .ensures) ∙ sym (run-here (a .m .now) (a .p) _ (k .0) (c .before .before .if1 .taken)),
+      c .from-char .ensures .0 ∙ ap (λ (l : List ℕ). fromChar l (a .p)) (c .before .own-part .ensures .0) ∙ sym (run-here (a .m .now) (a .p) _ (k .0) (c .before .before .if1 .taken)),
       omega arith,
     )
 
