@@ -2,3 +2,4 @@ pub mod Played
 pub mod Listed
 pub mod Turns
 pub mod Runs
+pub mod Unique

@@ -3,19 +3,19 @@ use mathlib.Core.Path.{_≡_, refl, sym, ap, subst⁻¹, _∙_}
 use mathlib.Core.List.{List}
 use Prim.Native.Nat.{ℕ}
 use Rattle.plain.specs.Outcome.{Outcome, Outcome.value, Outcome.refused, mapped}
-use Rattle.plain_calls.specs.Calls.{Call, Call.insert, Call.remove, Call.setMark, Call.dropMark, Call.look, Said}
-use Rattle.marks.specs.MarkBytes.{markPut}
+use Rattle.plain_calls.specs.Calls.{Call, Call.insert, Call.remove, Call.setMark, Call.dropMark, Call.look, Said, Said.by, Said.is, inserting, removing, setting, called}
 use Rattle.demands.specs.Steps.{Step}
-use Rattle.demands.proofs.Bridge.{insert-steps, remove-steps, set-steps}
+use Rattle.demands.proofs.Bridge.{retold}
 use Rattle.plain_journal.specs.Replay.{codeOf}
 use Rattle.journal_fields.specs.declared.Done.the-variants.{Bad, Code}
 use Rattle.journal_fields.specs.Applied.{Promised, Applied}
 
 -- THEOREM: what a field's call promises is a step of its call.
 pub promised-steps : (c : Call) (m : List ℕ) (a : Outcome Said) (after : List ℕ) → Promised c m a after → Step c m a after
-promised-steps (insert p piece) m a after w = rw (w .1) (insert-steps m after p piece (w .0) (w .2))
-promised-steps (remove s e) m a after w = rw (w .1) (remove-steps m after s e (w .0) (w .2))
-promised-steps (setMark p) m a after w = rw (w .1) (set-steps m after p (λ k. markPut m k p) (w .0) (w .2))
+unfolding called
+promised-steps (insert p piece) m a after w = rw (w .1) (retold by (λ N. inserting N p piece) m (w .0) after (w .2 .called))
+promised-steps (remove s e) m a after w = rw (w .1) (retold by (λ N. removing N s e) m (w .0) after (w .2 .called))
+promised-steps (setMark p) m a after w = rw (w .1) (retold is (λ N. setting N p) m (w .0) after (w .2 .called))
 promised-steps (dropMark k) m a after w = absurd w
 promised-steps (look l) m a after w = absurd w
 
@@ -25,7 +25,7 @@ module _ (f : Outcome Call) (m : List ℕ) where
 
   -- an answer of its own kind is told as one of all, and the number stays
   pub applied-call : {A : Type 0} (tell : A → Said) (c : Call) (a : Outcome A) (n : ℕ) (after : List ℕ) → f ≡ value c → n ≡ codeOf a → Promised c m (mapped tell a) after → Applied f m (Code n) after
-  applied-call {A = A} tell c a n after e is s = subst⁻¹ (λ (x : Outcome Call). Applied x m (Code n) after) e (mapped tell a, ap Code (is ∙ same a), s)
+  applied-call {A = A} tell c a n after e code s = subst⁻¹ (λ (x : Outcome Call). Applied x m (Code n) after) e (mapped tell a, ap Code (code ∙ same a), s)
     where
       same : (x : Outcome A) → codeOf x ≡ codeOf (mapped tell x)
       same (value y) = refl

@@ -1,10 +1,10 @@
 -- What is read from well-formed memory, and the rows of the marks one by one.
-use mathlib.Core.Path.{_≡_, refl, sym, ap, _∙_}
+use mathlib.Core.Path.{_≡_, refl, sym, ap, subst, _∙_}
 use mathlib.Core.Bool.{true}
 use mathlib.Core.List.{List, [], _∷_, _++_, append-assoc, append-nil}
 use Prim.Native.Nat.{ℕ, suc, _+_, _<_}
 use native.Mathlib.Omega.{arith}
-use lib.ListN.{length, getD, drop}
+use lib.ListN.{length, getD, take, drop}
 use lib.Seq.{drop-cons, drop-length}
 use Rattle.plain.specs.Place.{bytes, units}
 use Rattle.plain.specs.Count.{lines, lineAt}
@@ -13,6 +13,7 @@ use Rattle.plain_note.specs.Note.{Note, Mark, Mark.free, Mark.at}
 use Rattle.plain_calls.specs.Marks.{isFree, placeIn, markOf, standing, lineBeside}
 use Rattle.memory.specs.Formed.{wellFormed, noteOf, ofNote}
 use Rattle.memory.proofs.Formed.{note-called}
+use Rattle.listing_lines.specs.Puts.{Laid}
 use Rattle.plain_journal.specs.Listing.{markLine, markRow, markRows, totalsLine, ending}
 
 -- ── a number of the note ──
@@ -71,33 +72,33 @@ unfolding markRows
 rows-one text k x xs = refl
 
 -- what is put, and what is still to come
-module _ (text : List ℕ) (marks : List Mark) (front : List ℕ) where
+module _ (text : List ℕ) (marks : List Mark) where
   abbrev pub Rows : ℕ → List ℕ → Type 0
-  Rows k put = front ++ markRows text 0 marks ≡ put ++ markRows text k (drop k marks)
+  Rows k put = markRows text 0 marks ≡ put ++ markRows text k (drop k marks)
 
-  pub rows-start : Rows 0 front
+  pub rows-start : Rows 0 []
   rows-start = refl
 
-  pub rows-turn : (k : ℕ) (put next : List ℕ) → k < length marks → Rows k put → next ≡ put ++ markRow text k (getD marks k free) → Rows (k + 1) next
-  rows-turn k put next h r e =
+  pub rows-turn : (k : ℕ) (put : List ℕ) → k < length marks → Rows k put → Rows (k + 1) (put ++ markRow text k (getD marks k free))
+  rows-turn k put h r =
       let z : suc k ≡ k + 1 = omega arith in
+      let row = markRow text k (getD marks k free) in
       r ∙ ap (λ (xs : List Mark). put ++ markRows text k xs) (drop-cons marks k free h)
       ∙ ap (λ (l : List ℕ). put ++ l) (rows-one text k (getD marks k free) (drop (suc k) marks))
-      ∙ sym (append-assoc put (markRow text k (getD marks k free)) (markRows text (suc k) (drop (suc k) marks)))
-      ∙ ap (λ (l : List ℕ). l ++ markRows text (suc k) (drop (suc k) marks)) (sym e)
-      ∙ ap (λ (j : ℕ). next ++ markRows text j (drop j marks)) z
+      ∙ sym (append-assoc put row (markRows text (suc k) (drop (suc k) marks)))
+      ∙ ap (λ (j : ℕ). (put ++ row) ++ markRows text j (drop j marks)) z
 
-  pub rows-end : (k : ℕ) (put : List ℕ) → k ≡ length marks → Rows k put → put ≡ front ++ markRows text 0 marks
+  pub rows-end : (k : ℕ) (put : List ℕ) → k ≡ length marks → Rows k put → put ≡ markRows text 0 marks
   rows-end k put e r =
       sym (r ∙ ap (λ (xs : List Mark). put ++ markRows text k xs) (ap (λ (j : ℕ). drop j marks) e ∙ drop-length marks) ∙ ap (λ (l : List ℕ). put ++ l) (rows-none text k) ∙ append-nil put)
+
+-- nothing is put for a mark that is free
+pub laid-none : (n : ℕ) (o none : List ℕ) → [] ≡ none → Laid n none o n o
+laid-none n o none e = subst (λ (l : List ℕ). Laid n l o n o) e (omega arith, sym (append-nil (take n o)), refl)
 
 -- ── the end ──
 
 -- THEOREM: the totals, then the rows.
-pub end-is : (N : Note) (front a b : List ℕ) (x y u l : ℕ) → x ≡ bytes (N .text) → y ≡ length (N .text) → u ≡ units (N .text) → l ≡ lines (N .text)
-    → a ≡ front ++ totalsLine x y u l → b ≡ a ++ markRows (N .text) 0 (N .marks) → b ≡ front ++ ending N
+pub end-is : (N : Note) (x y u l : ℕ) → x ≡ bytes (N .text) → y ≡ length (N .text) → u ≡ units (N .text) → l ≡ lines (N .text) → totalsLine x y u l ++ markRows (N .text) 0 (N .marks) ≡ ending N
 unfolding ending
-end-is N front a b x y u l ex ey eu el ea eb =
-    let e : a ≡ front ++ totalsLine (bytes (N .text)) (length (N .text)) (units (N .text)) (lines (N .text)) = ea ∙ cc (ex, ey, eu, el) in
-    eb ∙ ap (λ (s : List ℕ). s ++ markRows (N .text) 0 (N .marks)) e
-    ∙ append-assoc front (totalsLine (bytes (N .text)) (length (N .text)) (units (N .text)) (lines (N .text))) (markRows (N .text) 0 (N .marks))
+end-is N x y u l ex ey eu el = cc (ex, ey, eu, el)

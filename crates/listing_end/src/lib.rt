@@ -5,14 +5,14 @@ use listing_lines::put_mark;
 use listing_lines::put_totals;
 ghost use mathlib.Core.Path.{_≡_};
 ghost use mathlib.Core.Bool.{true};
-ghost use mathlib.Core.List.{_++_};
 ghost use Prim.Native.Nat.{_+_, _≤_, _<_};
-ghost use lib.ListN.{length, take};
+ghost use lib.ListN.{length};
 ghost use Rattle.plain.specs.Outcome.{kept};
 ghost use Rattle.answer.specs.Answers.{number};
 ghost use Rattle.plain_calls.specs.Marks.{markOf};
 ghost use Rattle.memory.specs.Formed.{wellFormed, noteOf};
 ghost use Rattle.plain_journal.specs.Listing.{markRow, markRows, ending};
+ghost use Rattle.listing_lines.specs.Puts.{Laid};
 ghost use Rattle.listing_end.specs.Ends.{Ends};
 
 const MARKS: usize = 256;
@@ -33,7 +33,7 @@ fn value_of(answer: Number) -> u64
 // The line of mark k, where it is live.
 fn put_row(m: &[u8], k: usize, out: &mut [u8], at: usize) -> usize
     requires { ⌜ (wellFormed (now m) ≡ true) × (at + 80 ≤ length (now out)) ⌝ }
-    ensures { λ r. ⌜ (r ≤ at + 80) × (take r (now (out .exit)) ≡ take at (now (out .entry)) ++ markRow (noteOf (now (m .entry)) .text) k (markOf (noteOf (now (m .entry))) k)) ⌝ }
+    ensures { λ r. ⌜ (r ≤ at + 80) × Laid at (markRow (noteOf (now (m .entry)) .text) k (markOf (noteOf (now (m .entry))) k)) (now (out .entry)) r (now (out .exit)) ⌝ }
 {
     let place = note::mark_place(m, k);
     let Number::Is(p) = place else {
@@ -45,7 +45,7 @@ fn put_row(m: &[u8], k: usize, out: &mut [u8], at: usize) -> usize
 
 fn put_rows(m: &[u8], out: &mut [u8], at: usize) -> usize
     requires { ⌜ (wellFormed (now m) ≡ true) × (at + 20480 ≤ length (now out)) ⌝ }
-    ensures { λ r. ⌜ (r ≤ at + 20480) × (take r (now (out .exit)) ≡ take at (now (out .entry)) ++ markRows (noteOf (now (m .entry)) .text) 0 (noteOf (now (m .entry)) .marks)) ⌝ }
+    ensures { λ r. ⌜ (r ≤ at + 20480) × Laid at (markRows (noteOf (now (m .entry)) .text) 0 (noteOf (now (m .entry)) .marks)) (now (out .entry)) r (now (out .exit)) ⌝ }
 {
     let mut k = 0;
     let mut put = at;
@@ -59,7 +59,7 @@ fn put_rows(m: &[u8], out: &mut [u8], at: usize) -> usize
 // The totals, and the marks.
 fn whole_ending(m: &[u8], out: &mut [u8], at: usize) -> usize
     requires { ⌜ (wellFormed (now m) ≡ true) × (at + 20590 ≤ length (now out)) ⌝ }
-    ensures { λ r. ⌜ (r ≤ at + 20590) × (take r (now (out .exit)) ≡ take at (now (out .entry)) ++ ending (noteOf (now (m .entry)))) ⌝ }
+    ensures { λ r. ⌜ (r ≤ at + 20590) × Laid at (ending (noteOf (now (m .entry)))) (now (out .entry)) r (now (out .exit)) ⌝ }
 {
     let bytes = value_of(note::len_bytes(m));
     let chars = value_of(note::len_chars(m));

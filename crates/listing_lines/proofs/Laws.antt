@@ -1,16 +1,16 @@
 -- What is put behind an output's first bytes; that the digits of `io::decimal` are those of `decimal`; the lines by their pieces; and what room makes of it.
 use mathlib.Core.Path.{_≡_, refl, sym, ap, _∙_}
 use mathlib.Core.Bool.{Bool, true, false, cond}
-use mathlib.Core.List.{List, _++_, append-assoc}
+use mathlib.Core.List.{List, [], _++_, append-assoc, append-nil}
 use Prim.Native.Nat.{ℕ, zero, suc, _+_, _-_, _*_, _/_, _%_, _^_, _≤_, _<_}
 use native.Mathlib.Omega.{arith}
 use native.Mathlib.Nat.{not-suc-le-zero, le-of-suc-le-suc, pow-succ', one-le-pow, pow-le-pow-right}
 use borrow.Author.Tests.{lt-ltb, le-ltb, le-leb, lt-leb, leb-true, leb-false}
 use lib.Dec.{eqb, leb}
-use lib.ListN.{length, take, length-append}
-use lib.Seq.{length-take-le, take-at, take-length}
+use lib.ListN.{length, take, drop, length-append, length-drop}
+use lib.Seq.{length-take-le, take-all, take-at, take-length, drop-at, drop-length, drop-drop}
 use Rattle.io.specs.Digits.{digits, Fewest}
-use Rattle.listing_lines.specs.Puts.{Puts}
+use Rattle.listing_lines.specs.Puts.{Laid, Puts}
 use Rattle.plain_journal.specs.Listing.{decimalBy, decimal, lineEnd, okText, refusedText, bytesText, charsText, unitsText, linesText, markText, placeText, lineText, fieldLine, totalsLine, markLine}
 
 -- ── pieces ──
@@ -19,9 +19,29 @@ use Rattle.plain_journal.specs.Listing.{decimalBy, decimal, lineEnd, okText, re
 pub put-is : (o p d m z : List ℕ) (at n : ℕ) → at ≤ length o → n ≡ length p → d ≡ take (length p) p ++ m → take (at + n) (take at o ++ (d ++ z)) ≡ take at o ++ p
 put-is o p d m z at n h e f = rw (f, take-length p, append-assoc p m z, ← append-assoc (take at o) p (m ++ z)) (take-at (take at o ++ p) (m ++ z) (at + n) (length-append (take at o) p ∙ omega (arith, length-take-le at o h)))
 
--- two pieces put one behind the other
-pub then-is : (o p q : List ℕ) {a b : List ℕ} → a ≡ o ++ p → b ≡ a ++ q → b ≡ o ++ (p ++ q)
-then-is o p q e f = f ∙ ap (λ (l : List ℕ). l ++ q) e ∙ append-assoc o p q
+-- what lies behind it is as it was
+pub rest-is : (o p d z : List ℕ) (at n : ℕ) → at + n ≤ length o → n ≡ length p → d ≡ take (length p) p ++ drop (length p) (take (length o - at) (drop at o)) → z ≡ drop (length o - at) (drop at o)
+    → drop (at + n) (take at o ++ (d ++ z)) ≡ drop (at + n) o
+rest-is o p d z at n h e f g =
+    let all : take (length o - at) (drop at o) ≡ drop at o = take-all (length o - at) (drop at o) (omega (arith, length-drop at o)) in
+    let none : drop (length o - at) (drop at o) ≡ [] = ap (λ (k : ℕ). drop k (drop at o)) (sym (length-drop at o)) ∙ drop-length (drop at o) in
+    let d-is : d ≡ p ++ drop n (drop at o) = f ∙ ap (λ (l : List ℕ). l ++ drop (length p) (take (length o - at) (drop at o))) (take-length p) ∙ ap (λ (l : List ℕ). p ++ drop (length p) l) all ∙ ap (λ (k : ℕ). p ++ drop k (drop at o)) (sym e) in
+    ap (λ (l : List ℕ). drop (at + n) (take at o ++ (d ++ l))) (g ∙ none)
+    ∙ ap (λ (l : List ℕ). drop (at + n) (take at o ++ l)) (append-nil d ∙ d-is)
+    ∙ ap (drop (at + n)) (sym (append-assoc (take at o) p (drop n (drop at o))))
+    ∙ drop-at (take at o ++ p) (drop n (drop at o)) (at + n) (length-append (take at o) p ∙ omega (arith, length-take-le at o (omega arith)))
+    ∙ drop-drop n at o
+
+-- two pieces laid one behind the other
+pub then-laid : (o o₁ o₂ p q : List ℕ) (at a b : ℕ) → Laid at p o a o₁ → Laid a q o₁ b o₂ → Laid at (p ++ q) o b o₂
+then-laid o o₁ o₂ p q at a b v w = (
+  omega (arith, v .0, w .0, length-append p q),
+  w .1 ∙ ap (λ (l : List ℕ). l ++ q) (v .1) ∙ append-assoc (take at o) p q,
+  w .2 ∙ further o₁ ∙ ap (drop (length q)) (v .2) ∙ sym (further o),
+)
+  where
+    further : (l : List ℕ) → drop b l ≡ drop (length q) (drop a l)
+    further l = ap (λ (k : ℕ). drop k l) (w .0) ∙ sym (drop-drop (length q) a l)
 
 -- ── digits ──
 
@@ -88,5 +108,5 @@ module _ (room at : ℕ) (line o : List ℕ) where
   pub no-room : leb (at + room) (length o) ≡ false → Puts room at line o at o
   no-room e = (λ h. absurd (omega (arith, leb-false (at + room) (length o) e)), λ h. (refl, refl))
 
-  pub with-room : (r : ℕ) (o′ : List ℕ) → leb (at + room) (length o) ≡ true → (r ≤ at + room) × (take r o′ ≡ take at o ++ line) → Puts room at line o r o′
+  pub with-room : (r : ℕ) (o′ : List ℕ) → leb (at + room) (length o) ≡ true → (r ≤ at + room) × Laid at line o r o′ → Puts room at line o r o′
   with-room r o′ e w = (λ h. w, λ h. absurd (omega (arith, leb-true (at + room) (length o) e)))

@@ -4,14 +4,14 @@ ghost use mathlib.Core.Bool.{cond};
 ghost use mathlib.Core.List.{_++_};
 ghost use Prim.Native.Nat.{_+_, _≤_};
 ghost use lib.Dec.{eqb, leb};
-ghost use lib.ListN.{length, take};
-ghost use Rattle.listing_lines.specs.Puts.{Puts};
+ghost use lib.ListN.{length};
+ghost use Rattle.listing_lines.specs.Puts.{Laid, Puts};
 ghost use Rattle.plain_journal.specs.Listing.{decimal, okText, refusedText, fieldLine, totalsLine, markLine};
 
 // Puts piece behind the first `at` bytes of out.
 fn put(out: &mut [u8], at: usize, piece: &[u8]) -> usize
     requires { ⌜ at + length (now piece) ≤ length (now out) ⌝ }
-    ensures { λ r. ⌜ (r ≡ at + length (now (piece .entry))) × (take r (now (out .exit)) ≡ take at (now (out .entry)) ++ now (piece .entry)) ⌝ }
+    ensures { λ r. ⌜ Laid at (now (piece .entry)) (now (out .entry)) r (now (out .exit)) ⌝ }
 {
     let n = bytes::copy(piece, &mut out[at..]);
     at + n
@@ -20,7 +20,7 @@ fn put(out: &mut [u8], at: usize, piece: &[u8]) -> usize
 // Puts the decimal digits of n there.
 fn put_decimal(out: &mut [u8], at: usize, n: u64) -> usize
     requires { ⌜ at + 20 ≤ length (now out) ⌝ }
-    ensures { λ r. ⌜ (r ≤ at + 20) × (take r (now (out .exit)) ≡ take at (now (out .entry)) ++ decimal n) ⌝ }
+    ensures { λ r. ⌜ (r ≤ at + 20) × Laid at (decimal n) (now (out .entry)) r (now (out .exit)) ⌝ }
 {
     let mut digits = [0u8; 20];
     let k = io::decimal(n, &mut digits);
@@ -30,7 +30,7 @@ fn put_decimal(out: &mut [u8], at: usize, n: u64) -> usize
 // Puts a word there, and a number behind it.
 fn put_counted(out: &mut [u8], at: usize, word: &[u8], n: u64) -> usize
     requires { ⌜ at + length (now word) + 20 ≤ length (now out) ⌝ }
-    ensures { λ r. ⌜ (r ≤ at + length (now (word .entry)) + 20) × (take r (now (out .exit)) ≡ take at (now (out .entry)) ++ (now (word .entry) ++ decimal n)) ⌝ }
+    ensures { λ r. ⌜ (r ≤ at + length (now (word .entry)) + 20) × Laid at (now (word .entry) ++ decimal n) (now (out .entry)) r (now (out .exit)) ⌝ }
 {
     let a = put(out, at, word);
     put_decimal(out, a, n)
@@ -39,7 +39,7 @@ fn put_counted(out: &mut [u8], at: usize, word: &[u8], n: u64) -> usize
 // Puts there how a field went: " ok" where its number is 0, else " refused NUMBER".
 fn put_code(out: &mut [u8], at: usize, code: u8) -> usize
     requires { ⌜ at + 29 ≤ length (now out) ⌝ }
-    ensures { λ r. ⌜ (r ≤ at + 29) × (take r (now (out .exit)) ≡ take at (now (out .entry)) ++ cond (eqb code 0) okText (refusedText ++ decimal code)) ⌝ }
+    ensures { λ r. ⌜ (r ≤ at + 29) × Laid at (cond (eqb code 0) okText (refusedText ++ decimal code)) (now (out .entry)) r (now (out .exit)) ⌝ }
 {
     if code == 0 {
         return put(out, at, b" ok");
@@ -50,7 +50,7 @@ fn put_code(out: &mut [u8], at: usize, code: u8) -> usize
 // The line of field k: "K ok" or "K refused NUMBER".
 fn field_line(out: &mut [u8], at: usize, k: u64, code: u8) -> usize
     requires { ⌜ at + 50 ≤ length (now out) ⌝ }
-    ensures { λ r. ⌜ (r ≤ at + 50) × (take r (now (out .exit)) ≡ take at (now (out .entry)) ++ fieldLine k code) ⌝ }
+    ensures { λ r. ⌜ (r ≤ at + 50) × Laid at (fieldLine k code) (now (out .entry)) r (now (out .exit)) ⌝ }
 {
     let a = put_decimal(out, at, k);
     let b = put_code(out, a, code);
@@ -60,7 +60,7 @@ fn field_line(out: &mut [u8], at: usize, k: u64, code: u8) -> usize
 // The totals: "bytes B chars C utf16 U lines L".
 fn totals_line(out: &mut [u8], at: usize, bytes: u64, chars: u64, utf16: u64, lines: u64) -> usize
     requires { ⌜ at + 110 ≤ length (now out) ⌝ }
-    ensures { λ r. ⌜ (r ≤ at + 110) × (take r (now (out .exit)) ≡ take at (now (out .entry)) ++ totalsLine bytes chars utf16 lines) ⌝ }
+    ensures { λ r. ⌜ (r ≤ at + 110) × Laid at (totalsLine bytes chars utf16 lines) (now (out .entry)) r (now (out .exit)) ⌝ }
 {
     let a = put_counted(out, at, b"bytes ", bytes);
     let b = put_counted(out, a, b" chars ", chars);
@@ -72,7 +72,7 @@ fn totals_line(out: &mut [u8], at: usize, bytes: u64, chars: u64, utf16: u64, li
 // The line of mark k: "mark K place P line L".
 fn mark_line(out: &mut [u8], at: usize, k: u64, place: u64, line: u64) -> usize
     requires { ⌜ at + 80 ≤ length (now out) ⌝ }
-    ensures { λ r. ⌜ (r ≤ at + 80) × (take r (now (out .exit)) ≡ take at (now (out .entry)) ++ markLine k place line) ⌝ }
+    ensures { λ r. ⌜ (r ≤ at + 80) × Laid at (markLine k place line) (now (out .entry)) r (now (out .exit)) ⌝ }
 {
     let a = put_counted(out, at, b"mark ", k);
     let b = put_counted(out, a, b" place ", place);

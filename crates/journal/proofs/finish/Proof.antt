@@ -35,7 +35,7 @@ returns c =
       over = refl;
       count = omega (arith, ap length (fields-none (a .rest .now) none));
       put-le = omega (arith, p .0);
-      lines = p .1 ∙ ap (λ (l : List ℕ). o ++ (l ++ ending (noteOf (a .m .now)))) (sym (lines-nil (a .m .now) (a .rest .now) (a .k) none));
+      lines = p .1 .1 ∙ ap (λ (l : List ℕ). o ++ (l ++ ending (noteOf (a .m .now)))) (sym (lines-nil (a .m .now) (a .rest .now) (a .k) none));
     }
 
 put-field-requires : tie.Need-put-field-requires
@@ -68,7 +68,7 @@ returns-2 c =
       over = refl;
       count = omega (arith, one-cut (a .m .now) (a .rest .now) (a .k) some (pre .2));
       put-le = omega (arith, p .0, q .0);
-      lines = p .1 ∙ ap (λ (l : List ℕ). l ++ ending N) (q .1) ∙ append-assoc o (fieldLine (a .k) 10) (ending N)
+      lines = p .1 .1 ∙ ap (λ (l : List ℕ). l ++ ending N) (q .1 .1) ∙ append-assoc o (fieldLine (a .k) 10) (ending N)
           ∙ ap (λ (l : List ℕ). o ++ (l ++ ending N)) (sym (lines-cut (a .m .now) (a .rest .now) (a .k) some (pre .2)));
     }
 

@@ -38,7 +38,8 @@ returns c =
     let ol : length (f .last .1 .1 .1 .0) ≡ length (a .out .now) = f .kept .1 .1 .1 .0 in
     let p = c .before .before .put-ending in
     let room : f .result .put + 20590 ≤ length (f .last .1 .1 .1 .0) = omega (arith, f .ensures .room) in
-    served-ended (a .m .now) (f .last .0) (a .buf .now) (a .out .now) (f .last .1 .1 .1 .0) (a .k) (a .last) (f .result) (f .ensures) (p .last .1 .0) (p .result) (c .before .before .before .before .before .if1 .taken) (p .ensures .0 (f .ensures .does .left .formed) .0 room)
+    let e = p .ensures .0 (f .ensures .does .left .formed) .0 room in
+    served-ended (a .m .now) (f .last .0) (a .buf .now) (a .out .now) (f .last .1 .1 .1 .0) (a .k) (a .last) (f .result) (f .ensures) (p .last .1 .0) (p .result) (c .before .before .before .before .before .if1 .taken) (e .0, e .1 .1)
 
 -- src/lib.rt:102:17
 finish-requires : tie.Need-finish-requires

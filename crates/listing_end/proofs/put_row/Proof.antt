@@ -1,11 +1,11 @@
-use Rattle.listing_end.proofs.Laws.{row-none, row-live}
+use Rattle.listing_end.proofs.Laws.{row-none, row-live, laid-none}
 use Rattle.plain_journal.specs.Listing.{markLine}
 use Rattle.answer.specs.Answers.{number}
-use lib.ListN.{take}
+use Rattle.listing_lines.specs.Puts.{Laid}
 use native.Mathlib.Omega.{arith}
 use Prim.Native.Nat.{ℕ}
-use mathlib.Core.List.{List, _++_, append-nil}
-use mathlib.Core.Path.{sym, ap, _∙_}
+use mathlib.Core.List.{List}
+use mathlib.Core.Path.{sym, ap, subst, _∙_}
 use borrow.Author.Needs.{needs}
 use Rattle.listing_end.proofs.put_row.Statement.{statement}
 use Rattle.listing_end.proofs.put_row.Tie as tie
@@ -32,8 +32,7 @@ enum-told c = search needs
 returns : tie.Need-returns
 returns c =
     let a = c .before .before .before .before .before .args in
-    let o = take (a .at) (a .out .now) in
-    (omega arith, sym (append-nil o) ∙ ap (λ (l : List ℕ). o ++ l) (row-none (a .m .now) (c .before .before .before .before .before .pre .0) (a .k) _ (sym (ap number (c .enum-told .given .1)) ∙ c .before .before .mark-place .ensures)))
+    (omega arith, laid-none (a .at) (a .out .now) _ (row-none (a .m .now) (c .before .before .before .before .before .pre .0) (a .k) _ (sym (ap number (c .enum-told .given .1)) ∙ c .before .before .mark-place .ensures)))
 
 -- src/lib.rt:37:9
 mark-line-requires : tie.Need-mark-line-requires
@@ -60,10 +59,10 @@ returns-2 c =
     let line = c .before .before .before .before .before .mark-line in
     let t = c .before .before .before .before .before .before .before .place .given in (
       v .0,
-      v .1
-          ∙ ap (λ (l : List ℕ). take (a .at) (a .out .now) ++ l)
+      subst (λ (l : List ℕ). Laid (a .at) l (a .out .now) (put .result) (put .last .0))
           (ap (markLine (a .k) (t .0 .0)) (c .before .before .before .value-of .ensures)
-          ∙ row-live (a .m .now) (c .before .before .before .before .before .before .before .before .before .before .before .before .pre .0) (a .k) (t .0 .0) (number (line .result)) (sym (ap number (t .1)) ∙ c .before .before .before .before .before .before .before .before .before .mark-place .ensures) (line .ensures)),
+          ∙ row-live (a .m .now) (c .before .before .before .before .before .before .before .before .before .before .before .before .pre .0) (a .k) (t .0 .0) (number (line .result)) (sym (ap number (t .1)) ∙ c .before .before .before .before .before .before .before .before .before .mark-place .ensures) (line .ensures))
+          (v .1),
     )
 
 pub put-row-spec : {M : Type 1} → statement M

@@ -1,10 +1,15 @@
-use Rattle.listing_end.proofs.Laws.{Rows, rows-start, rows-turn, rows-end}
+use Rattle.listing_end.proofs.Laws.{Rows, rows-start, rows-turn, rows-end, laid-none}
+use Rattle.listing_lines.specs.Puts.{Laid}
+use Rattle.listing_lines.proofs.Laws.{then-laid}
+use Rattle.plain_journal.specs.Listing.{markRow}
+use Rattle.plain_calls.specs.Marks.{markOf}
+use mathlib.Core.List.{List, [], _++_}
 use Rattle.demands.proofs.Fits.{formed-fits}
 use Rattle.memory.specs.Formed.{noteOf}
-use lib.ListN.{length, take}
+use lib.ListN.{length}
 use native.Mathlib.Omega.{arith}
-use Prim.Native.Nat.{_+_, _-_, _*_, _≤_}
-use mathlib.Core.Path.{_≡_, refl, _∙_}
+use Prim.Native.Nat.{ℕ, _+_, _-_, _*_, _≤_}
+use mathlib.Core.Path.{_≡_, refl, subst, _∙_}
 use Rattle.listing_end.proofs.put_rows.Statement.{statement}
 use Rattle.listing_end.proofs.put_rows.Tie as tie
 use Rattle.listing_end.proofs.put_rows.Reads as reads
@@ -12,14 +17,16 @@ use Rattle.listing_end.proofs.put_rows.Lts as lts
 use Rattle.listing_end.proofs.put_row.Reads as put-row-reads
 
 abbrev Inv-loop : tie.InvT-loop
-Inv-loop m out₀ at k₀ put₀ out k put = (k ≤ 256) × (put ≤ at + 80 * k) × (length out ≡ length out₀) × Rows (noteOf m .text) (noteOf m .marks) (take at out₀) k (take put out)
+Inv-loop m out₀ at k₀ put₀ out k put = (k ≤ 256) × (put ≤ at + 80 * k) × (length out ≡ length out₀) × ((done : List ℕ) × Laid at done out₀ put out × Rows (noteOf m .text) (noteOf m .marks) k done)
 
 abbrev μ-loop : tie.MeasureT-loop
 μ-loop m out₀ at k₀ put₀ out k put = 256 - k
 
 -- src/lib.rt:47:5
 loop-holds : tie.Need-loop-holds Inv-loop μ-loop
-loop-holds c = (omega arith, omega arith, refl, rows-start (noteOf (c .before .before .args .m .now) .text) (noteOf (c .before .before .args .m .now) .marks) (take (c .before .before .args .at) (c .before .before .args .out .now)))
+loop-holds c =
+    let a = c .before .before .args in
+    (omega arith, omega arith, refl, ([], laid-none (a .at) (a .out .now) [] refl, rows-start (noteOf (a .m .now) .text) (noteOf (a .m .now) .marks)))
 
 -- src/lib.rt:48:9
 put-row-requires : tie.Need-put-row-requires Inv-loop μ-loop
@@ -39,11 +46,17 @@ loop-again c =
     let a = c .before .before .before .before .before .before .before .before .args in
     let L = c .before .before .before .before .before .loop in
     let r = c .before .before .put-row in
-    let N = noteOf (a .m .now) in (
+    let N = noteOf (a .m .now) in
+    let done = L .inv .3 .0 in
+    let row = markRow (N .text) (L .k) (markOf N (L .k)) in (
       omega arith,
       omega (arith, r .ensures .0, L .inv .1),
       r .kept .1 .1 .0 ∙ L .inv .2,
-      rows-turn (N .text) (N .marks) (take (a .at) (a .out .now)) (L .k) (take (L .put) (L .out)) (take (r .result) (r .last .1 .1 .0)) (omega (arith, formed-fits (a .m .now) (c .before .before .before .before .before .before .before .before .pre .0) .count)) (L .inv .3) (r .ensures .1),
+      (
+        done ++ row,
+        then-laid (a .out .now) (L .out) (r .last .1 .1 .0) done row (a .at) (L .put) (r .result) (L .inv .3 .1) (r .ensures .1),
+        rows-turn (N .text) (N .marks) (L .k) done (omega (arith, formed-fits (a .m .now) (c .before .before .before .before .before .before .before .before .pre .0) .count)) (L .inv .3 .2),
+      ),
     )
 
 -- src/lib.rt:41:1
@@ -56,7 +69,8 @@ returns c =
     let a = c .before .before .before .before .args in
     let L = c .before .loop in
     let N = noteOf (a .m .now) in
-    (omega (arith, L .inv .1, L .inv .0), rows-end (N .text) (N .marks) (take (a .at) (a .out .now)) (L .k) (take (L .put) (L .out)) (omega (arith, L .inv .0, formed-fits (a .m .now) (c .before .before .before .before .pre .0) .count)) (L .inv .3))
+    let all = rows-end (N .text) (N .marks) (L .k) (L .inv .3 .0) (omega (arith, L .inv .0, formed-fits (a .m .now) (c .before .before .before .before .pre .0) .count)) (L .inv .3 .2) in
+    (omega (arith, L .inv .1, L .inv .0), subst (λ (l : List ℕ). Laid (a .at) l (a .out .now) (L .put) (L .out)) all (L .inv .3 .1))
 
 pub put-rows-spec : {M : Type 1} → statement M
 put-rows-spec =

@@ -1,11 +1,15 @@
-use Prim.Native.Nat.{_+_, _≤_}
-use mathlib.Core.Path.{_≡_, _∙_}
+use Prim.Native.Nat.{ℕ, _+_, _≤_}
+use mathlib.Core.Path.{_≡_, subst, _∙_}
+use mathlib.Core.List.{List}
+use Rattle.listing_lines.specs.Puts.{Laid}
+use Rattle.listing_lines.proofs.Laws.{then-laid}
+use Rattle.plain_journal.specs.Listing.{totalsLine, markRows}
 use Rattle.listing_end.proofs.Laws.{told, end-is}
 use Rattle.memory.specs.Formed.{noteOf}
 use Rattle.answer.specs.Answers.{number}
 use Rattle.plain.specs.Count.{lines}
 use Rattle.plain.specs.Place.{bytes, units}
-use lib.ListN.{length, take}
+use lib.ListN.{length}
 use native.Mathlib.Omega.{arith}
 use borrow.Author.Needs.{needs}
 use Rattle.listing_end.proofs.whole_ending.Statement.{statement}
@@ -86,12 +90,13 @@ returns c =
     let v = t .ensures .0 room in
     let r = c .before .before .put-rows in (
       omega (arith, r .ensures .0, v .0),
-      end-is (noteOf m) (take (a .at) (a .out .now)) (take (t .result) (t .last .0)) (take (r .result) (r .last .1 .0)) (v1 .result) (v2 .result) (v3 .result) (v4 .result)
+      subst (λ (l : List ℕ). Laid (a .at) l (a .out .now) (r .result) (r .last .1 .0))
+          (end-is (noteOf m) (v1 .result) (v2 .result) (v3 .result) (v4 .result)
           (v1 .ensures ∙ told m ok (λ N. bytes (N .text)) (number (l1 .result)) (l1 .ensures))
           (v2 .ensures ∙ told m ok (λ N. length (N .text)) (number (l2 .result)) (l2 .ensures))
           (v3 .ensures ∙ told m ok (λ N. units (N .text)) (number (l3 .result)) (l3 .ensures))
-          (v4 .ensures ∙ told m ok (λ N. lines (N .text)) (number (l4 .result)) (l4 .ensures))
-          (v .1) (r .ensures .1),
+          (v4 .ensures ∙ told m ok (λ N. lines (N .text)) (number (l4 .result)) (l4 .ensures)))
+          (then-laid (a .out .now) (t .last .0) (r .last .1 .0) (totalsLine (v1 .result) (v2 .result) (v3 .result) (v4 .result)) (markRows (noteOf m .text) 0 (noteOf m .marks)) (a .at) (t .result) (r .result) (v .1) (r .ensures .1)),
     )
 
 pub whole-ending-spec : {M : Type 1} → statement M

@@ -3,9 +3,8 @@ use mathlib.Core.Bool.{cond}
 use mathlib.Core.List.{_++_}
 use borrow.Author.Needs.{needs}
 use lib.Dec.{eqb}
-use lib.ListN.{take}
 use Rattle.plain_journal.specs.Listing.{decimal, okText, refusedText, lineEnd}
-use Rattle.listing_lines.proofs.Laws.{then-is, field-is}
+use Rattle.listing_lines.proofs.Laws.{then-laid, field-is}
 use Rattle.listing_lines.proofs.field_line.Statement.{statement}
 use Rattle.listing_lines.proofs.field_line.Tie as tie
 
@@ -27,10 +26,15 @@ same-length c = search needs
 returns : tie.Need-returns
 returns c =
     let a = c .before .before .before .before .before .before .before .before .before .before .before .before .before .before .args in
+    let o = a .out .now in
     let d = c .before .before .before .before .before .before .before .before .before .before .before .put-decimal in
+    let q = c .before .before .before .before .before .before .before .put-code in
+    let e = c .before .before .put in
     let code = cond (eqb (a .code) 0) okText (refusedText ++ decimal (a .code)) in (
       search needs,
-      rw field-is (then-is (take (a .at) (a .out .now)) (decimal (a .k)) (code ++ lineEnd) (d .ensures .1) (then-is (take (d .result) (d .last .0)) code lineEnd (c .before .before .before .before .before .before .before .put-code .ensures .1) (c .before .before .put .ensures .1))),
+      rw field-is
+          (then-laid o (d .last .0) (e .last .0) (decimal (a .k)) (code ++ lineEnd) (a .at) (d .result) (e .result) (d .ensures .1)
+          (then-laid (d .last .0) (q .last .0) (e .last .0) code lineEnd (d .result) (q .result) (e .result) (q .ensures .1) (e .ensures))),
     )
 
 pub field-line-spec : {M : Type 1} → statement M

@@ -1,9 +1,8 @@
 -- `listing_lines::put_mark` meets its contract: its four pieces.
 use mathlib.Core.List.{_++_}
 use borrow.Author.Needs.{needs}
-use lib.ListN.{take}
 use Rattle.plain_journal.specs.Listing.{markText, placeText, lineText, lineEnd, decimal}
-use Rattle.listing_lines.proofs.Laws.{then-is, mark-is}
+use Rattle.listing_lines.proofs.Laws.{then-laid, mark-is}
 use Rattle.listing_lines.proofs.mark_line.Statement.{statement}
 use Rattle.listing_lines.proofs.mark_line.Tie as tie
 
@@ -42,9 +41,10 @@ returns c =
     let s = c .before .before .before .before .before .before .before .put-counted3 in
     let h = placeText ++ decimal (a .place) in
     let l = lineText ++ decimal (a .line) in
-    let e3 = then-is (take (q .result) (q .last .0)) l lineEnd (s .ensures .1) (c .before .before .put .ensures .1) in
-    let e2 = then-is (take (p .result) (p .last .0)) h (l ++ lineEnd) (q .ensures .1) e3 in
-    (search needs, rw mark-is (then-is (take (a .at) (a .out .now)) (markText ++ decimal (a .k)) (h ++ (l ++ lineEnd)) (p .ensures .1) e2))
+    let e = c .before .before .put in
+    let e3 = then-laid (q .last .0) (s .last .0) (e .last .0) l lineEnd (q .result) (s .result) (e .result) (s .ensures .1) (e .ensures) in
+    let e2 = then-laid (p .last .0) (q .last .0) (e .last .0) h (l ++ lineEnd) (p .result) (q .result) (e .result) (q .ensures .1) e3 in
+    (search needs, rw mark-is (then-laid (a .out .now) (p .last .0) (e .last .0) (markText ++ decimal (a .k)) (h ++ (l ++ lineEnd)) (a .at) (p .result) (e .result) (p .ensures .1) e2))
 
 pub mark-line-spec : {M : Type 1} → statement M
 mark-line-spec =

@@ -1,11 +1,11 @@
 -- `listing_lines::put` meets its contract: what `copy` ensures, of the part that starts at `at`.
-use mathlib.Core.Path.{ap}
+use mathlib.Core.Path.{refl, ap}
 use Prim.Native.Nat.{ℕ, _+_, _-_}
 use native.Mathlib.Omega.{arith}
 use borrow.Rule.Slice.PartMut.{postOf}
 use borrow.Author.Needs.{needs}
 use lib.ListN.{length, take, drop}
-use Rattle.listing_lines.proofs.Laws.{put-is}
+use Rattle.listing_lines.proofs.Laws.{put-is, rest-is}
 use Rattle.listing_lines.proofs.put.Statement.{statement}
 use Rattle.listing_lines.proofs.put.Tie as tie
 
@@ -35,6 +35,7 @@ returns c =
     let rest = postOf (a .at) (length (a .out .now) - a .at) (a .out .now) in (
       ap (λ (n : ℕ). a .at + n) (k .ensures .0),
       put-is (a .out .now) (a .piece .now) (k .last .1 .0) old rest (a .at) (k .result) (omega arith) (k .ensures .0) (k .ensures .1),
+      rest-is (a .out .now) (a .piece .now) (k .last .1 .0) rest (a .at) (k .result) (omega (arith, k .ensures .0)) (k .ensures .0) (k .ensures .1) refl,
     )
 
 pub put-spec : {M : Type 1} → statement M

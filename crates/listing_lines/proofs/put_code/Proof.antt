@@ -14,7 +14,7 @@ same-length : tie.Need-same-length
 same-length c = search needs
 
 returns : tie.Need-returns
-returns c = (search needs, rw (eq-eqb _ 0 (c .before .before .before .before .before .if1 .taken)) (c .before .before .put .ensures .1))
+returns c = (search needs, rw (eq-eqb _ 0 (c .before .before .before .before .before .if1 .taken)) (c .before .before .put .ensures))
 
 slice-aggregate-put-counted : tie.Need-slice-aggregate-put-counted
 slice-aggregate-put-counted c = search needs

@@ -1,10 +1,10 @@
 -- `listing_lines::put_decimal` meets its contract: `io::decimal` has at most 20 digits, and they are those of `decimal`.
-use mathlib.Core.Path.{ap, _∙_}
-use mathlib.Core.List.{List, _++_}
+use mathlib.Core.Path.{subst, _∙_}
+use mathlib.Core.List.{List}
 use Prim.Native.Nat.{ℕ}
 use native.Mathlib.Omega.{arith}
 use borrow.Author.Needs.{needs}
-use lib.ListN.{take}
+use Rattle.listing_lines.specs.Puts.{Laid}
 use Rattle.listing_lines.proofs.Laws.{places-le, decimal-is}
 use Rattle.listing_lines.proofs.put_decimal.Statement.{statement}
 use Rattle.listing_lines.proofs.put_decimal.Tie as tie
@@ -36,7 +36,7 @@ returns c =
     let fits = s .fits .n .fits in
     let few = d .ensures .1 .0 in (
       omega (arith, p .ensures .0, d .ensures .0 .1, places-le (d .result) (a .n) fits few),
-      p .ensures .1 ∙ ap (λ (l : List ℕ). take (a .at) (a .out .now) ++ l) (d .ensures .1 .1 ∙ decimal-is (d .result) (a .n) fits few),
+      subst (λ (l : List ℕ). Laid (a .at) l (a .out .now) (p .result) (p .last .0)) (d .ensures .1 .1 ∙ decimal-is (d .result) (a .n) fits few) (p .ensures),
     )
 
 pub put-decimal-spec : {M : Type 1} → statement M

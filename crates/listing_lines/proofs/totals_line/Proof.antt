@@ -1,9 +1,8 @@
 -- `listing_lines::put_totals` meets its contract: its five pieces.
 use mathlib.Core.List.{_++_}
 use borrow.Author.Needs.{needs}
-use lib.ListN.{take}
 use Rattle.plain_journal.specs.Listing.{bytesText, charsText, unitsText, linesText, lineEnd, decimal}
-use Rattle.listing_lines.proofs.Laws.{then-is, totals-is}
+use Rattle.listing_lines.proofs.Laws.{then-laid, totals-is}
 use Rattle.listing_lines.proofs.totals_line.Statement.{statement}
 use Rattle.listing_lines.proofs.totals_line.Tie as tie
 
@@ -51,10 +50,11 @@ returns c =
     let h = charsText ++ decimal (a .chars) in
     let u = unitsText ++ decimal (a .utf16) in
     let l = linesText ++ decimal (a .lines) in
-    let e4 = then-is (take (s .result) (s .last .0)) l lineEnd (t .ensures .1) (c .before .before .put .ensures .1) in
-    let e3 = then-is (take (q .result) (q .last .0)) u (l ++ lineEnd) (s .ensures .1) e4 in
-    let e2 = then-is (take (p .result) (p .last .0)) h (u ++ (l ++ lineEnd)) (q .ensures .1) e3 in
-    (search needs, rw totals-is (then-is (take (a .at) (a .out .now)) b (h ++ (u ++ (l ++ lineEnd))) (p .ensures .1) e2))
+    let e = c .before .before .put in
+    let e4 = then-laid (s .last .0) (t .last .0) (e .last .0) l lineEnd (s .result) (t .result) (e .result) (t .ensures .1) (e .ensures) in
+    let e3 = then-laid (q .last .0) (s .last .0) (e .last .0) u (l ++ lineEnd) (q .result) (s .result) (e .result) (s .ensures .1) e4 in
+    let e2 = then-laid (p .last .0) (q .last .0) (e .last .0) h (u ++ (l ++ lineEnd)) (p .result) (q .result) (e .result) (q .ensures .1) e3 in
+    (search needs, rw totals-is (then-laid (a .out .now) (p .last .0) (e .last .0) b (h ++ (u ++ (l ++ lineEnd))) (a .at) (p .result) (e .result) (p .ensures .1) e2))
 
 pub totals-line-spec : {M : Type 1} → statement M
 totals-line-spec =

@@ -111,7 +111,7 @@ returns-2 c =
     let d = as-bad (L .m) (f .last .0) (a .buf .now) (L .out) (f .last .1 .1 .1 .0) (L .at) (L .put) (L .j) (f .result) (L .inv .0) (f .ensures) (t .0 .0) (t .0 .1 .0) (t .1) in
     let line = d .0 .3 .0 (omega arith) in
     fed (a .m .now) (f .last .0) (a .buf .now) (a .out .now) (f .last .1 .1 .1 .0) (a .k) (L .at + t .0 .0) (t .0 .1 .0) (L .j + 1) true (c .before .before .before .before .before .before .before .before .before .before .before .before .before .before .before .before .pre .0) (d .1 .0) (omega (arith, line .0, d .1 .1)) (omega (arith, line .0, L .inv .4))
-    (taking-one (a .m .now) (L .m) (f .last .0) (a .buf .now) (L .out) (f .last .1 .1 .1 .0) (a .k) (L .at) (L .put) (L .j) (t .0 .0) (t .0 .1 .0) _ (c .before .before .before .before .before .before .before .before .before .before .before .before .before .before .before .before .pre .0) (L .inv .7) (d .0 .0) (d .0 .1) (d .0 .2) (line .1))
+    (taking-one (a .m .now) (L .m) (f .last .0) (a .buf .now) (L .out) (f .last .1 .1 .1 .0) (a .k) (L .at) (L .put) (L .j) (t .0 .0) (t .0 .1 .0) _ (c .before .before .before .before .before .before .before .before .before .before .before .before .before .before .before .before .pre .0) (L .inv .7) (d .0 .0) (d .0 .1) (d .0 .2) (line .1 .1))
     (λ e. absurd (false≢true (sym e)))
 
 -- src/fields.rt:79:29
@@ -161,7 +161,7 @@ loop-again c =
     let line = one .3 .0 (omega arith) in
     let ok = c .before .before .before .before .before .before .before .before .before .before .before .before .before .before .before .before .pre .0 in
     let next : Taking (a .m .now) (f .last .0) (a .buf .now) (f .last .1 .1 .1 .0) (a .k) (L .at + t .0 .0) (t .0 .1 .0) (L .j + 1) false =
-    taking-one (a .m .now) (L .m) (f .last .0) (a .buf .now) (L .out) (f .last .1 .1 .1 .0) (a .k) (L .at) (L .put) (L .j) (t .0 .0) (t .0 .1 .0) _ ok (L .inv .7) (one .0) (one .1) (one .2) (line .1) in
+    taking-one (a .m .now) (L .m) (f .last .0) (a .buf .now) (L .out) (f .last .1 .1 .1 .0) (a .k) (L .at) (L .put) (L .j) (t .0 .0) (t .0 .1 .0) _ ok (L .inv .7) (one .0) (one .1) (one .2) (line .1 .1) in
     (d .1 .0, omega (arith, line .0), omega (arith, d .1 .1), omega (arith, line .0, d .1 .1), ol ∙ L .inv .4, played-left (fieldsOf (take (L .at + t .0 .0) (a .buf .now))) (a .m .now) (f .last .0) ok (next .played) .formed, f .kept .0 ∙ L .inv .6, next)
 
 -- src/fields.rt:53:1
