@@ -32,8 +32,10 @@ pub fn set_mark(m: &mut [u8], p: usize) -> Number
     if MARKS <= k {
         return Number::Refused(Refusal::Marks);
     }
-    set_at(m, k, p as u32);
-    Number::Is(k)
+    match set_at(m, k, p as u32) {
+        Verdict::Refused(r) => Number::Refused(r),
+        Verdict::Accepted => Number::Is(k),
+    }
 }
 
 // Mark k is free again.
@@ -43,10 +45,10 @@ pub fn drop_mark(m: &mut [u8], k: usize) -> Verdict
     if !memory::check(m) {
         return Verdict::Refused(Refusal::Memory);
     }
-    let Number::Is(_) = standing_at(m, k) else {
-        return Verdict::Refused(Refusal::Mark);
-    };
-    set_mark_live(m, k, 0)
+    match standing_at(m, k) {
+        Number::Refused(r) => Verdict::Refused(r),
+        Number::Is(_) => set_mark_live(m, k, 0),
+    }
 }
 
 // Where mark k stands.

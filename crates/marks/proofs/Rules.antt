@@ -1,5 +1,5 @@
 -- What the tests of the code decide: whether a mark is live, and what refuses a call.
-use mathlib.Core.Path.{_≡_, refl, ap, _∙_}
+use mathlib.Core.Path.{_≡_, refl, sym, ap, _∙_}
 use mathlib.Core.Bool.{Bool, not, _||_, cond}
 use mathlib.Core.List.{List}
 use Prim.Native.Nat.{ℕ, suc, _%_, _^_, _≤_, _<_}
@@ -12,11 +12,14 @@ use Rattle.plain.proofs.Logic.{or-left, or-right}
 use Rattle.plain.proofs.Outcome.{one-applies, one-passed}
 use Rattle.plain_calls.specs.Marks.{lowest, movedTo, raised}
 use Rattle.note_head.specs.Head.{editOf, liveAt, placeAt, markAt, marksFrom}
+use Rattle.answer.specs.Answers.{refusalNumber, verdict}
+use Rattle.answer.specs.declared.Refusal.{Refusal}
 use Rattle.answer.specs.declared.Verdict.{Verdict}
+use Rattle.answer.specs.declared.Verdict.the-variants as Verdict·case
 use Rattle.pool.specs.Slot.{slotsAt}
 use Rattle.pool.specs.Calls.{Wrote}
 use Rattle.pool.proofs.Rules.{wrote-done}
-use Rattle.head_write.specs.Writes.{numberPut, livePut, placePut, numberSet, liveSet}
+use Rattle.head_write.specs.Writes.{numberPut, livePut, placePut, numberSet, liveSet, placeSet}
 use Rattle.head_write.proofs.Laid.{mark-it, live-there, number-there, number-it}
 use Rattle.marks.specs.MarkBytes.{markPut, markSet, standingIn, markMoved, marksMoved, editedPut, edited}
 
@@ -58,6 +61,12 @@ module _ (f : ℕ → ℕ) (m : List ℕ) (k : ℕ) where
   unfolding markMoved
   moves-free l = ap (λ (t : Bool). cond t (placePut m k (f (placeAt m k) % 2 ^ 32)) m) (ne-eqb (liveAt m k) 1 l)
 
+-- what is written where there is room is not refused
+pub wrote-never : {X : Type 0} (o : Outcome (List ℕ)) (m : List ℕ) (r : Verdict) (after : List ℕ) → Wrote o m r after → (t : List ℕ) → o ≡ value t
+    → (q : Refusal) → r ≡ Verdict·case.Refused q → X
+wrote-never o m r after w t e q f =
+    absurd (let z : refused (refusalNumber q) ≡ value tt = sym (ap verdict f) ∙ w .answered ∙ ap (mapped (λ x. tt)) e in let y : _≡_ {A = ℕ} 0 1 = cc in omega arith)
+
 -- a mark set: its place, and then that it is live
 module _ (m : List ℕ) (h : 6144 ≤ length m) (k : ℕ) (l : k < 256) (q : ℕ) where
   pub set-wrote : (x : List ℕ) → length x ≡ length m → x ≡ placePut m k q → (r : Verdict) (after : List ℕ) → Wrote (liveSet x k 1) x r after → Wrote (markSet m k q) m r after
@@ -67,6 +76,14 @@ module _ (m : List ℕ) (h : 6144 ≤ length m) (k : ℕ) (l : k < 256) (q : ℕ
       wrote-done _ m r _ after (mark-it m k (markPut m k q) h l)
       (w .answered ∙ ap (mapped (λ t. tt)) (mark-it x k (livePut x k 1) g l))
       (live-there x g k l 1 r after w ∙ ap (λ (y : List ℕ). livePut y k 1) p)
+
+  pub place-never : {X : Type 0} (r : Verdict) (after : List ℕ) → Wrote (placeSet m k q) m r after → (p : Refusal) → r ≡ Verdict·case.Refused p → X
+  unfolding placeSet
+  place-never r after w p f = wrote-never _ m r after w _ (mark-it m k (placePut m k q) h l) p f
+
+  pub set-never : {X : Type 0} (r : Verdict) (after : List ℕ) → Wrote (markSet m k q) m r after → (p : Refusal) → r ≡ Verdict·case.Refused p → X
+  unfolding markSet
+  set-never r after w p f = wrote-never _ m r after w _ (mark-it m k (markPut m k q) h l) p f
 
   pub set-there : (r : Verdict) (after : List ℕ) → Wrote (markSet m k q) m r after → after ≡ markPut m k q
   unfolding markSet

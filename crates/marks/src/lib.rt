@@ -64,7 +64,10 @@ pub fn set_at(m: &mut [u8], k: usize, place: u32) -> Verdict
     if MARKS <= k {
         return Verdict::Refused(Refusal::Mark);
     }
-    set_mark_place(m, k, place);
+    let put = set_mark_place(m, k, place);
+    let Verdict::Accepted = put else {
+        return put;
+    };
     set_mark_live(m, k, 1)
 }
 

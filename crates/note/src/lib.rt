@@ -1,6 +1,7 @@
 // The public calls of a note in memory that the caller lends. Each takes the memory as it lies and is total: but for opening it is refused by 2 where
 // the memory is not well formed, and by the lowest number of document 01 that applies; a refused call changes no byte. What a call answers and leaves is
 // said on the plain note that the memory means (crate plain_calls).
+use answer::Verdict;
 use line_change::Change;
 use marks::follow;
 use str_indices::chars;
@@ -64,8 +65,10 @@ pub fn insert(m: &mut [u8], p: usize, piece: &[u8]) -> Change
     if piece.len() == 0 {
         return done;
     }
-    follow(m, p, p, chars::count(piece) as u32);
-    done
+    match follow(m, p, p, chars::count(piece) as u32) {
+        Verdict::Refused(r) => Change::Refused(r),
+        Verdict::Accepted => done,
+    }
 }
 
 // The chars of [s, e) taken out. Marks among them go to s, those behind move back, and the edit number rises; an empty range changes nothing at all.
@@ -79,6 +82,8 @@ pub fn remove(m: &mut [u8], s: usize, e: usize) -> Change
     if s == e {
         return done;
     }
-    follow(m, s, e, 0);
-    done
+    match follow(m, s, e, 0) {
+        Verdict::Refused(r) => Change::Refused(r),
+        Verdict::Accepted => done,
+    }
 }

@@ -171,14 +171,17 @@ module _ (m : List ℕ) (k : ℕ) where
   drop-2 bad = mark-refused (λ N. dropping N k) drop-bytes m 2 (note-refused m (λ N. dropping N k) bad)
 
   module _ (ok : wellFormed m ≡ true) where
-    pub drop-7 : (q : ℕ) → refused q ≡ standingIn m k → MarkCalled (λ N. dropping N k) drop-bytes m (refused 7) m
+    pub drop-7 : (q : ℕ) → refused q ≡ standingIn m k → MarkCalled (λ N. dropping N k) drop-bytes m (refused q) m
     unfolding dropping standing
     drop-7 q e =
-        mark-refused (λ N. dropping N k) drop-bytes m 7
+        mark-refused (λ N. dropping N k) drop-bytes m q
         (note-called m (λ N. dropping N k) ok ∙ go (isFree (markOf (noteOf m) k)) refl)
       where
-        go : (t : Bool) → isFree (markOf (noteOf m) k) ≡ t → dropping (noteOf m) k ≡ refused 7
-        go true f = one-applies 7 (isFree (markOf (noteOf m) k)) _ f
+        go : (t : Bool) → isFree (markOf (noteOf m) k) ≡ t → dropping (noteOf m) k ≡ refused q
+        go true f =
+            let z : _≡_ {A = Outcome ℕ} (refused q) (refused 7) = e ∙ sym (standing-is m k) ∙ one-applies 7 (isFree (markOf (noteOf m) k)) (placeIn (markOf (noteOf m) k)) f in
+            let y : 7 ≡ q = cc in
+            one-applies 7 (isFree (markOf (noteOf m) k)) _ f ∙ ap (λ (n : ℕ). refused n) y
         go false f =
             absurd (let z : _≡_ {A = Outcome ℕ} (refused q) (value (placeIn (markOf (noteOf m) k)))
             = e ∙ sym (standing-is m k) ∙ one-passed 7 (isFree (markOf (noteOf m) k)) (placeIn (markOf (noteOf m) k)) f in

@@ -19,19 +19,19 @@ returns c = let a = c .before .before .before .before .args in drop-2 (a .m .now
 standing-at-requires : tie.Need-standing-at-requires
 standing-at-requires c κs = search needs
 
+enum-known-r : tie.Need-enum-known-r
+enum-known-r c = search needs
+
 enum-told : tie.Need-enum-told
 enum-told c = search needs
-
-enum-told-2 : tie.Need-enum-told-2
-enum-told-2 c = search needs
 
 same-length-2 : tie.Need-same-length-2
 same-length-2 c = search needs
 
 returns-2 : tie.Need-returns-2
 returns-2 c =
-    let a = c .before .before .before .before .before .before .before .before .args in
-    drop-7 (a .m .now) (a .k) (sym (c .before .before .before .before .before .check .ensures) ∙ not-false _ (c .before .before .before .before .if1 .left)) _ (sym (ap number (c .enum-told2 .given .1)) ∙ c .before .before .standing-at .ensures)
+    let a = c .before .before .before .before .before .before .before .before .before .args in
+    drop-7 (a .m .now) (a .k) (sym (c .before .before .before .before .before .before .check .ensures) ∙ not-false _ (c .before .before .before .before .before .if1 .left)) _ (sym (ap number (c .before .r .given .1)) ∙ c .before .before .before .standing-at .ensures)
 
 set-mark-live-requires : tie.Need-set-mark-live-requires
 set-mark-live-requires c κs = search needs
@@ -52,10 +52,10 @@ drop-mark-spec =
     same-length
     returns
     standing-at-requires
+    enum-known-r
     enum-told
-    enum-told-2
+    set-mark-live-requires
     same-length-2
     returns-2
-    set-mark-live-requires
     same-length-3
     returns-3)

@@ -4,7 +4,7 @@ use native.Mathlib.Omega.{arith}
 use Rattle.pool.proofs.Rules.{wrote-refused}
 use Rattle.head_write.proofs.Laid.{mark-short, mark-none, place-there}
 use Rattle.marks.specs.MarkBytes.{markPut, markSet}
-use Rattle.marks.proofs.Rules.{set-wrote}
+use Rattle.marks.proofs.Rules.{set-wrote, place-never}
 use borrow.Author.Needs.{needs}
 use Rattle.marks.proofs.set_at.Statement.{statement}
 use Rattle.marks.proofs.set_at.Tie as tie
@@ -20,17 +20,31 @@ returns-2 c = let a = c .before .before .before .args in wrote-refused _ _ _ 7 (
 set-mark-place-requires : tie.Need-set-mark-place-requires
 set-mark-place-requires c κs = search needs
 
-set-mark-live-requires : tie.Need-set-mark-live-requires
-set-mark-live-requires c κs = search needs
+enum-told : tie.Need-enum-told
+enum-told c = search needs
+
+enum-told-2 : tie.Need-enum-told-2
+enum-told-2 c = search needs
 
 same-length : tie.Need-same-length
 same-length c = search needs
 
 returns-3 : tie.Need-returns-3
 returns-3 c =
-    let a = c .before .before .before .before .before .before .before .before .before .before .before .args in
+    let a = c .before .before .before .before .before .before .before .before .before .args in
+    place-never (a .m .now) (omega arith) (a .k) (omega arith) (a .place) _ _ (c .before .before .before .before .set-mark-place .ensures) _ (c .enum-told2 .given .1)
+
+set-mark-live-requires : tie.Need-set-mark-live-requires
+set-mark-live-requires c κs = search needs
+
+same-length-2 : tie.Need-same-length-2
+same-length-2 c = search needs
+
+returns-4 : tie.Need-returns-4
+returns-4 c =
+    let a = c .before .before .before .before .before .before .before .before .before .before .before .before .before .args in
     set-wrote (a .m .now) (omega arith) (a .k) (omega arith) (a .place) _ (omega arith)
-    (place-there (a .m .now) (omega arith) (a .k) (omega arith) (a .place) _ _ (c .before .before .before .before .before .before .set-mark-place .ensures))
+    (place-there (a .m .now) (omega arith) (a .k) (omega arith) (a .place) _ _ (c .before .before .before .before .before .before .before .before .set-mark-place .ensures))
     _ _ (c .before .before .set-mark-live .ensures)
 
 pub set-at-spec : {M : Type 1} → statement M
@@ -40,6 +54,10 @@ set-at-spec =
     returns
     returns-2
     set-mark-place-requires
-    set-mark-live-requires
+    enum-told
+    enum-told-2
     same-length
-    returns-3)
+    returns-3
+    set-mark-live-requires
+    same-length-2
+    returns-4)

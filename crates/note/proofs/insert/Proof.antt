@@ -3,7 +3,7 @@ use native.Mathlib.Omega.{arith}
 use Rattle.plain.specs.Place.{isStart}
 use Rattle.text_info.proofs.Counts.{count-le}
 use Rattle.note_promise.proofs.Calls.{insert-refused, insert-idle, insert-busy, insert-short}
-use Rattle.note.proofs.Follows.{none, follow-there}
+use Rattle.note.proofs.Follows.{none, follow-there, follow-never}
 use borrow.Author.Needs.{needs}
 use Rattle.note.proofs.insert.Statement.{statement}
 use Rattle.note.proofs.insert.Tie as tie
@@ -44,15 +44,29 @@ cast-follow c =
 follow-requires : tie.Need-follow-requires
 follow-requires c κs = search needs
 
+enum-known-r : tie.Need-enum-known-r
+enum-known-r c = search needs
+
+enum-told-3 : tie.Need-enum-told-3
+enum-told-3 c = search needs
+
 same-length-3 : tie.Need-same-length-3
 same-length-3 c = search needs
 
 returns-3 : tie.Need-returns-3
 returns-3 c =
-    let a = c .before .before .before .before .before .before .before .before .before .before .before .before .before .before .args in
-    let w = c .before .before .before .before .before .before .before .before .before .before .insert .ensures in
-    insert-busy (a .m .now) (a .p) (a .piece .now) _ _ w _ (c .before .before .before .before .before .before .enum-told .given .1) (omega arith) _ (c .before .before .before .count .ensures) _
-    (follow-there (a .m .now) _ _ w (c .before .before .before .before .before .before .enum-told .given .1) (a .p) (a .p) _ _ _ (c .before .before .follow .ensures))
+    let a = c .before .before .before .before .before .before .before .before .before .before .before .before .before .before .before .before .before .args in
+    follow-never (a .m .now) _ _ (c .before .before .before .before .before .before .before .before .before .before .before .before .before .insert .ensures) (c .before .before .before .before .before .before .before .before .before .enum-told .given .1) (a .p) (a .p) _ _ _ (c .before .before .before .before .before .follow .ensures) _ (c .before .r .given .1)
+
+same-length-4 : tie.Need-same-length-4
+same-length-4 c = search needs
+
+returns-4 : tie.Need-returns-4
+returns-4 c =
+    let a = c .before .before .before .before .before .before .before .before .before .before .before .before .before .before .before .before .args in
+    let w = c .before .before .before .before .before .before .before .before .before .before .before .before .insert .ensures in
+    insert-busy (a .m .now) (a .p) (a .piece .now) _ _ w _ (c .before .before .before .before .before .before .before .before .enum-told .given .1) (omega arith) _ (c .before .before .before .before .before .count .ensures) _
+    (follow-there (a .m .now) _ _ w (c .before .before .before .before .before .before .before .before .enum-told .given .1) (a .p) (a .p) _ _ _ (c .before .before .before .before .follow .ensures))
 
 pub insert-spec : {M : Type 1} → statement M
 insert-spec =
@@ -68,5 +82,9 @@ insert-spec =
     count-requires
     cast-follow
     follow-requires
+    enum-known-r
+    enum-told-3
     same-length-3
-    returns-3)
+    returns-3
+    same-length-4
+    returns-4)
