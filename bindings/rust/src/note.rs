@@ -116,8 +116,7 @@ impl<'a> Note<'a> {
     /// All runs from a place on. Each checks the memory anew, so that a long text is had sooner by one
     /// [`Note::copy_out`]. Refused by [`Refusal::Place`].
     pub fn runs(&self, place: Place) -> Result<Runs<'_>, Refusal> {
-        self.run(place)?;
-        Ok(Runs::new(self, place))
+        Runs::new(self, place)
     }
 
     /// What an insertion would give, without it: chars from a place of the joined text on, where they lie
