@@ -1,7 +1,7 @@
 #!/bin/sh
-# bench.sh [--edits]   measures the library's counts, every call of a note, and what an edit costs beyond the check of the memory, beside plain
-#   Rust and the source crate's rope, and prints the tables of docs/PERFORMANCE.md, in half a minute once the library is proved. --edits: what an
-#   edit costs beyond the check alone.
+# bench.sh [--edits | --growth]   measures the library's counts, every call of a note, how calls grow with it, and what an edit costs beyond the check
+#   of the memory, beside plain Rust and the source crate's rope, and prints the tables of docs/PERFORMANCE.md, in half a minute once the library is
+#   proved. --edits: what an edit costs beyond the check alone. --growth: how calls grow alone.
 # UNPROVED=yes   compiles the library with nothing proved
 # ORACLE=FOLDER  the source crate's folder (oracle.sh)
 set -eu
