@@ -15,7 +15,7 @@ use text_info::{Info, TextInfo};
 
 // A child's node is a leaf; a list; none, or one whose counts cannot be; a leaf that is no text. Or the counts in the list are not the
 // node's.
-#[derive(Drop)]
+#[derive(Clone, Copy)]
 pub(crate) enum Ask {
     Leaf,
     List,

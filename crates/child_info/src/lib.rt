@@ -1,6 +1,8 @@
 // The children of a list in the lent memory: whether their counts are right, and whether they may be moved. A port of the part of ropey's
 // `node_children.rs` that reaches through a child to its node and changes nothing; a list is named by its slot. Where the Rust panics, a
 // call refuses.
+#![tactic(auto)]
+
 mod checks;
 
 ghost use Rattle.std.specs.Prelude.{◌≡◌, true, [], ◌∷◌, ◌<◌, ◌≤◌};

@@ -1,4 +1,6 @@
 // The counts of a list's children added up, and the searches by these sums.
+#![tactic(auto)]
+
 ghost use Rattle.std.specs.Prelude.{◌≡◌, false, ◌<◌, ◌≤◌, min, take, drop};
 ghost use Rattle.plain.specs.Outcome.{mapped};
 ghost use Rattle.pool.specs.Slot.{region_of, entries};
@@ -12,35 +14,35 @@ use pool::{info_of, region_start};
 use text_info::{Info, TextInfo, TextSum};
 
 // The counts of all children.
-#[derive(Drop)]
+#[derive(Clone, Copy)]
 pub enum Sum {
     Is(TextSum),
     Refused(Refusal),
 }
 
 // A child's index, and the counts of the children on its left.
-#[derive(Drop)]
+#[derive(Clone, Copy)]
 pub enum Found {
     At(usize, TextSum),
     Refused(Refusal),
 }
 
 // A child's index, and the chars on its left.
-#[derive(Drop)]
+#[derive(Clone, Copy)]
 pub enum FoundChars {
     At(usize, usize),
     Refused(Refusal),
 }
 
 // The child at the start of a range and the chars on its left, and the same of its end.
-#[derive(Drop)]
+#[derive(Clone, Copy)]
 pub enum FoundRange {
     Are(usize, usize, usize, usize),
     Refused(Refusal),
 }
 
 // What a search counts. `CharEnds` is for the end of a range: a child that ends there is its last.
-#[derive(Drop)]
+#[derive(Clone, Copy)]
 pub enum Measure {
     Bytes,
     Chars,
@@ -50,7 +52,7 @@ pub enum Measure {
 }
 
 // Where a search ended.
-#[derive(Drop)]
+#[derive(Clone, Copy)]
 struct Spot {
     idx: usize,
     left: TextSum,

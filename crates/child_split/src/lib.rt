@@ -1,5 +1,7 @@
 // Child lists split in two halves, and two that share their children. From `node_children.rs`, where these are methods of the list. A call
 // that refuses hands back the lists that it was given.
+#![tactic(auto)]
+
 ghost use Rattle.std.specs.Prelude.{◌≡◌, [], ◌∷◌, ◌++◌, ◌+◌, ◌/◌, ◌<◌, ◌≤◌};
 ghost use Rattle.plain.specs.Outcome.{Outcome.value, Outcome.refused};
 ghost use Rattle.answer.specs.Answers.{refusal_number};

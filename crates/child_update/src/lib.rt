@@ -1,4 +1,6 @@
 // A child of a list in the lent memory, counted anew. From `node_children.rs`; a refused call changes no byte.
+#![tactic(auto)]
+
 ghost use Rattle.std.specs.Prelude.{◌≡◌, false, ◌<◌};
 ghost use Rattle.pool.specs.Calls.{outside, Wrote};
 ghost use Rattle.child_info.specs.Renewed.{slot_at, renewing};

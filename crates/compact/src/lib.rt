@@ -1,5 +1,7 @@
 // The leaves of a list in the lent memory packed into as few slots as hold them. A port of `compact_leaves` of ropey's
 // `node_children.rs`. A refused call changes no byte.
+#![tactic(auto)]
+
 mod pack;
 
 ghost use Rattle.std.specs.Prelude.{◌≡◌, true, false, ◌<◌, ◌≤◌};

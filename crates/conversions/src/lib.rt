@@ -1,5 +1,7 @@
 // The calls that turn an index of one count into another, under the names of ropey's `rope.rs`. Each is refused by 2 where the memory is not well formed and by
 // 3 where the index is past its end, and looks at nothing beyond the note's need.
+#![tactic(auto)]
+
 ghost use Rattle.std.specs.Prelude.{◌≡◌};
 ghost use Rattle.plain.specs.Place.{Measure.byte, Measure.char, Measure.unit, Measure.line};
 ghost use Rattle.answer.specs.Answers.{number};

@@ -1,4 +1,6 @@
 // Chars of the note copied out, leaf by leaf, to the front of an output that the caller lends.
+#![tactic(auto)]
+
 ghost use Rattle.std.specs.Prelude.{◌≡◌, true, [], ◌∷◌, ◌+◌, ◌-◌, ◌≤◌, length, take, drop};
 ghost use Rattle.plain.specs.Chars.{encode};
 ghost use Rattle.plain.specs.Place.{bytes, byte_at};

@@ -1,4 +1,6 @@
 // An edit of the leaf that a search finds, one level down at each step, and what became of it told up again.
+#![tactic(auto)]
+
 ghost use Rattle.edit_steps.specs.Made.{edit};
 ghost use Rattle.edit_steps.specs.Acts.{Did};
 ghost use Rattle.descent.specs.Descent.{inside_part, leaf_part, edited_at};
@@ -12,7 +14,7 @@ use tree_search::{Branch, child_at, rest};
 
 // Which part of a leaf's text gives way to the piece: bytes of it; or so many chars before the place that was sought, if chars of the leaf stay before
 // them and behind them.
-#[derive(Drop)]
+#[derive(Clone, Copy)]
 pub enum Part {
     Bytes(usize, usize),
     Inside(usize),

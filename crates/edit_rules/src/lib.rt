@@ -1,4 +1,6 @@
 // What refuses an edit of the note, or that nothing does.
+#![tactic(auto)]
+
 ghost use Rattle.std.specs.Prelude.{◌≡◌, ◌≤◌};
 ghost use Rattle.plain.specs.Outcome.{ruled};
 ghost use Rattle.plain_note.specs.Note.{limit, insert_rules, piece_most};

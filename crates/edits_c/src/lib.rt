@@ -1,4 +1,6 @@
 // The calls that change a note for C and Rust to link: its edits, and its marks. Each returns 0, or document 01's number of the refusal.
+#![tactic(auto)]
+
 ghost use Rattle.std.specs.Prelude.{◌≡◌, []};
 ghost use Rattle.plain.specs.Outcome.{kept};
 ghost use Rattle.plain_calls.specs.Calls.{inserting, removing, setting, dropping};

@@ -1,5 +1,7 @@
 // Runs document 01's fourteen on the calls as they are compiled. Writes a line for each item, and one numbered 0 for what it says of T itself: ok
 // where every answer is the document's.
+#![tactic(auto)]
+
 mod bytes;
 mod compare;
 mod notes;

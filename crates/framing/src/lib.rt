@@ -1,4 +1,6 @@
 // The field at the front of some bytes: how long it is.
+#![tactic(auto)]
+
 ghost use Rattle.std.specs.Prelude.{◌≡◌, cond, ◌≤◌};
 ghost use Rattle.framing.specs.Field.{field_bytes, is_whole};
 

@@ -1,5 +1,7 @@
 // The free slots of the lent memory, a chain: its first slot taken, and a slot given back as its first. Each function is total; a refused
 // call changes no byte.
+#![tactic(auto)]
+
 ghost use Rattle.pool.specs.Calls.{Wrote};
 ghost use Rattle.free_slots.specs.Slots.{taken, given, Took};
 

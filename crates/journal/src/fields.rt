@@ -13,7 +13,7 @@ pub(crate) const ROOM: usize = 20690;
 pub(crate) const FIELD: u8 = 10;
 
 // What was done: there is no whole field; or one, with how many bytes it took and how far the output is then put; or a bad one, which ends the reading.
-#[derive(Drop)]
+#[derive(Clone, Copy)]
 pub(crate) enum Field {
     Short,
     Listed { used: usize, put: usize },
@@ -21,7 +21,7 @@ pub(crate) enum Field {
 }
 
 // `ended`: a bad field ended the reading.
-#[derive(Drop)]
+#[derive(Clone, Copy)]
 pub(crate) struct Fed {
     pub(crate) used: usize,
     pub(crate) k: u64,

@@ -1,6 +1,8 @@
 // A journal turned into its listing, for input of any length in bounded memory. Input lies in a buffer, and a turn lists the fields that are whole there into
 // an output. Where it uses nothing it wants more input; where that has ended it lists the end. A turn speaks of what is still to come, so that turn after turn
 // the outputs joined are the listing of the inputs joined (proofs/Runs.antt).
+#![tactic(auto)]
+
 mod fields;
 
 ghost use Rattle.std.specs.Prelude.{◌≡◌, true, false, ◌+◌, ◌-◌, ◌≤◌, ◌<◌, ◌^◌, length, take, drop};
@@ -21,7 +23,7 @@ pub const SLOTS: usize = 80;
 
 // What a program keeps from turn to turn: the buffer's first `fill` bytes are input that is not used yet, k is the next field's number, and the output's first `put`
 // bytes are to be written. `last`: the input has ended. `over`: the listing is complete.
-#[derive(Drop)]
+#[derive(Clone, Copy)]
 pub struct State {
     pub fill: usize,
     pub k: u64,
@@ -31,13 +33,13 @@ pub struct State {
 }
 
 // A turn's answer.
-#[derive(Drop)]
+#[derive(Clone, Copy)]
 pub enum Turned {
     On(State),
     Refused(Refusal),
 }
 
-#[derive(Drop)]
+#[derive(Clone, Copy)]
 struct Served {
     used: usize,
     k: u64,

@@ -1,4 +1,6 @@
 // One field of a journal done on the lent memory: by its tag and body, or the one at the front of some bytes. Both are total.
+#![tactic(auto)]
+
 ghost use Rattle.std.specs.Prelude.{◌≡◌};
 ghost use Rattle.answer.specs.Answers.{number, change};
 ghost use Rattle.plain_journal.specs.Fields.{asked};
@@ -10,14 +12,14 @@ use framing::field_bytes;
 use octets::number_at;
 
 // What became of a field: it is bad, or its number, 0 where it was accepted or that of its refusal.
-#[derive(Drop)]
+#[derive(Clone, Copy)]
 pub enum Done {
     Bad,
     Code(u8),
 }
 
 // What became of the field at the front of some bytes: it is not all there; or how many bytes it has, and what was done.
-#[derive(Drop)]
+#[derive(Clone, Copy)]
 pub enum Front {
     Short,
     Whole { used: usize, done: Done },

@@ -1,4 +1,6 @@
 // The leaf's calls and counts for C and Rust to link.
+#![tactic(auto)]
+
 ghost use Rattle.leaf_calls.specs.Asked.{asked_by};
 ghost use Rattle.text_info.specs.Info.{leaf_info};
 ghost use Rattle.leaf_c.specs.Told.{LeavesTold, InfoTold, SumTold};

@@ -1,5 +1,7 @@
 // Every call of a leaf by its number, with one form of question and answer: what the replayed sample and the programs in C and Rust ask
 // through. A call on one leaf answers the right leaf's length as it lies.
+#![tactic(auto)]
+
 ghost use Rattle.std.specs.Prelude.{◌≡◌, length};
 ghost use Rattle.plain.specs.Outcome.{mapped};
 ghost use Rattle.answer.specs.Answers.{number, sides};
@@ -8,7 +10,7 @@ ghost use Rattle.leaf_calls.specs.Asked.{asked, asked_by};
 
 use answer::{Number, Refusal, Sides};
 
-#[derive(Drop)]
+#[derive(Clone, Copy)]
 pub enum Call {
     FromStr,
     InsertStr,

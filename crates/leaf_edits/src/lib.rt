@@ -1,4 +1,6 @@
 // The calls of `node_text.rs` that edit one leaf. Each is one edit of `node_text`, with the range and the piece that it names.
+#![tactic(auto)]
+
 ghost use Rattle.std.specs.Prelude.{[], length};
 ghost use Rattle.leaf_bytes.specs.Leaf.{leaf_of, Leaf};
 ghost use Rattle.node_text.specs.Texts.{edited};

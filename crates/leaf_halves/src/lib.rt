@@ -1,4 +1,6 @@
 // A piece put into a leaf, and the whole split near its half. Beside `leaf_bytes`, and on any bytes as there.
+#![tactic(auto)]
+
 mod half;
 mod sides;
 

@@ -1,5 +1,7 @@
 // A leaf in its slot of the lent memory: its text copied out, edited where it lies, and parted in two. A slot that holds no leaf is refused
 // by 2; a refused call changes no byte.
+#![tactic(auto)]
+
 ghost use Rattle.std.specs.Prelude.{◌≡◌, false, not, [], ◌∷◌, ◌≤◌, length};
 ghost use Rattle.plain.specs.Outcome.{Outcome.value, ruled, past};
 ghost use Rattle.answer.specs.Answers.{number, verdict, sides};

@@ -1,5 +1,7 @@
 // Parts of the leaf that a search ends at: from a char or a byte of the note's text to the leaf's end, not copied; and the byte of a char index.
 // Total on any memory: where the search finds no leaf the part is empty.
+#![tactic(auto)]
+
 ghost use Rattle.std.specs.Prelude.{◌≡◌, ◌-◌, ◌≤◌, ◌<◌, length, drop};
 ghost use Rattle.answer.specs.Answers.{number};
 ghost use Rattle.note_head.specs.Part.{PartOf};

@@ -1,4 +1,6 @@
 // Two leaves whose seam is moved to a break, if it is none. Beside `leaf_bytes`, and on any bytes as there.
+#![tactic(auto)]
+
 mod seam;
 mod shift;
 

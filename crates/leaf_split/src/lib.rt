@@ -1,4 +1,6 @@
 // The calls of a leaf that lay text into a second one. A port of ropey's `node_text.rs`, as `node_text`.
+#![tactic(auto)]
+
 ghost use Rattle.std.specs.Prelude.{◌≡◌, [], ◌∷◌, length};
 ghost use Rattle.plain.specs.Outcome.{ruled};
 ghost use Rattle.answer.specs.Answers.{number};

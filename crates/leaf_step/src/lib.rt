@@ -1,6 +1,8 @@
 // One step of an edit, in a leaf: some bytes of its text give way to a piece. A leaf that becomes too long is parted in two, the second of
 // them in a slot that was free. Each function is total; a refused call changes no byte. Where there is room the leaf is not asked whether it
 // is text: its bytes are moved and counted as they are, and in a memory that was checked they are text before and after.
+#![tactic(auto)]
+
 ghost use Rattle.std.specs.Prelude.{◌≡◌, true, ◌<◌};
 ghost use Rattle.plain.specs.Outcome.{Outcome.value};
 ghost use Rattle.text_info.specs.Info.{info, raw_info};

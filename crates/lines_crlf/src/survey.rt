@@ -7,14 +7,14 @@ ghost use Rattle.lines_crlf.specs.Surveyed.{Tops, Higher};
 use crate::{ended, ends_last, stop, sum_of};
 
 // The highest byte, 0 where there is none, and how many breaks there are.
-#[derive(Drop)]
+#[derive(Clone, Copy)]
 pub struct Survey {
     pub high: u8,
     pub count: usize,
 }
 
 // The same of a part.
-#[derive(Drop)]
+#[derive(Clone, Copy)]
 struct Part {
     high: u8,
     count: u8,

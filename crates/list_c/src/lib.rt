@@ -1,4 +1,6 @@
 // The calls of a child list for C and Rust to link.
+#![tactic(auto)]
+
 ghost use Rattle.list_calls.specs.Asked.{asked_by};
 ghost use Rattle.list_c.specs.Told.{ListTold};
 

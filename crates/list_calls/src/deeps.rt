@@ -8,7 +8,7 @@ use child_update::update_child_info;
 use compact::compact_leaves;
 use merge::merge_distribute;
 
-#[derive(Drop)]
+#[derive(Clone, Copy)]
 pub(crate) enum Deep {
     UpdateChildInfo,
     MergeDistribute,

@@ -1,5 +1,7 @@
 // Every call of a child list by its number, over lists that lie in slots of lent memory, with one form of question and answer: what the
 // replayed sample and the programs in C and Rust ask through. A refused call changes no byte.
+#![tactic(auto)]
+
 mod deeps;
 mod reads;
 mod replies;
@@ -16,7 +18,7 @@ use answer::Refusal;
 use pool::Kid;
 
 // Five numbers: those that a call does not name are 0.
-#[derive(Drop)]
+#[derive(Clone, Copy)]
 pub enum Reply {
     Are(usize, usize, usize, usize, usize),
     Refused(Refusal),
@@ -24,7 +26,7 @@ pub enum Reply {
 
 // What a call is: one that reads a list, makes one of one, takes a child out of one, makes two of one, reaches into the nodes of its
 // children, or one of the two others.
-#[derive(Drop)]
+#[derive(Clone, Copy)]
 enum Call {
     New,
     Reads(Read),

@@ -7,7 +7,7 @@ use crate::replies::{of_chars, of_found, of_range, of_sum, of_truth};
 use answer::{Truth, Verdict};
 use node_children::NodeChildren;
 
-#[derive(Drop)]
+#[derive(Clone, Copy)]
 pub(crate) enum Read {
     Len,
     IsFull,

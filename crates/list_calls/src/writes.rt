@@ -16,21 +16,21 @@ use nodes::{load, store};
 use pool::{Kid, region_start};
 
 // A list of one.
-#[derive(Drop)]
+#[derive(Clone, Copy)]
 pub(crate) enum Edit {
     Push,
     Insert,
 }
 
 // A child out of a list.
-#[derive(Drop)]
+#[derive(Clone, Copy)]
 pub(crate) enum Take {
     Pop,
     Remove,
 }
 
 // Two lists of one.
-#[derive(Drop)]
+#[derive(Clone, Copy)]
 pub(crate) enum Part {
     PushSplit,
     InsertSplit,

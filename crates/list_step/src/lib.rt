@@ -1,5 +1,7 @@
 // One step of an edit on its way up: a list of children takes in what became of one of them. The list keeps its slot; a full one that gets
 // one child more is parted, and the right half lies in a slot that was free. A refused call changes no byte.
+#![tactic(auto)]
+
 ghost use Rattle.std.specs.Prelude.{◌≡◌, true, false, [], ◌∷◌, ◌<◌, ◌≤◌};
 ghost use Rattle.plain.specs.Outcome.{ruled};
 ghost use Rattle.text_info.specs.Info.{info};

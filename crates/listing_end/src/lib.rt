@@ -1,5 +1,7 @@
 // The end of a listing, read from the lent memory: the totals, and a line for each live mark by number. The memory is checked once, by the call that turns
 // the marks' places into lines.
+#![tactic(auto)]
+
 ghost use Rattle.std.specs.Prelude.{◌≡◌, true, ◌+◌, ◌≤◌, ◌<◌, length};
 ghost use Rattle.plain_calls.specs.Marks.{mark_of};
 ghost use Rattle.note_counts.specs.Counts.{most_in};
@@ -22,7 +24,7 @@ const MARKS: usize = 256;
 const ENDING: usize = 20590;
 
 // How far the output is filled, and how many rows of marks were put.
-#[derive(Drop)]
+#[derive(Clone, Copy)]
 struct Rows {
     end: usize,
     count: usize,

@@ -1,4 +1,6 @@
 // The lines of a listing, put behind what an output already holds. Where it has no room for the longest line of its kind, nothing is put.
+#![tactic(auto)]
+
 ghost use Rattle.std.specs.Prelude.{◌≡◌, cond, ◌++◌, ◌+◌, ◌≤◌, eqb, leb, length};
 ghost use Rattle.listing_lines.specs.Puts.{Laid, Puts};
 ghost use Rattle.plain_journal.specs.Listing.{decimal, ok_text, refused_text, field_line, totals_line, mark_line};
@@ -8,8 +10,9 @@ fn put(out: &mut [u8], at: usize, piece: &[u8]) -> usize
     requires { at + length piece.now ≤ length out.old }
     ensures { Laid at piece.now out.old result out.new }
 {
-    let n = bytes::copy(piece, &mut out[at..]);
-    at + n
+    let end = at + piece.len();
+    out[at..end].copy_from_slice(piece);
+    end
 }
 
 // Puts the decimal digits of n there.

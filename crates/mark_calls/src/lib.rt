@@ -1,5 +1,7 @@
 // The public calls on a note's marks: one set, one dropped, and where one stands. Each is refused by 2 where the memory is not well formed, and a refused call changes
 // no byte.
+#![tactic(auto)]
+
 ghost use Rattle.std.specs.Prelude.{◌≡◌};
 ghost use Rattle.answer.specs.Answers.{number, verdict};
 ghost use Rattle.plain_calls.specs.Marks.{standing, line_beside};

@@ -1,5 +1,7 @@
 // The marks in the head of the lent memory: the lowest free one, where a live one stands, one set, and all of them moved by an edit, which raises the
 // edit number too. Each function is total on any bytes, and every byte afterwards is given.
+#![tactic(auto)]
+
 ghost use Rattle.std.specs.Prelude.{◌≡◌, ◌+◌, ◌<◌, ◌≤◌, length};
 ghost use Rattle.plain_note.specs.Note.{head_size};
 ghost use Rattle.plain.specs.Outcome.{Outcome.value};

@@ -1,5 +1,7 @@
 // The lent memory as a whole: whether it is well formed, which every call asks first. The check looks at each slot of the note once, and at
 // nothing beyond the note's need.
+#![tactic(auto)]
+
 ghost use Rattle.std.specs.Prelude.{◌≡◌, true, ◌&&◌, ℕ, ◌+◌, ◌-◌, ◌≤◌, ◌<◌, length, set};
 ghost use Rattle.plain_note.specs.Note.{need};
 ghost use Rattle.tree.specs.Tree.{least_root, tells};
@@ -29,7 +31,7 @@ const MAX_HEIGHT: u8 = 5;
 const MIN_ROOT_CHILDREN: usize = 2;
 
 // A step along the free slots: the next one, or none where the slot is not free or was met before.
-#[derive(Drop)]
+#[derive(Clone, Copy)]
 enum Step {
     To(usize),
     Bad,

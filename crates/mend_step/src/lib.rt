@@ -1,5 +1,7 @@
 // One step of an edit on its way up, where a child fell below its least size: it is merged with its neighbour, or gets a share of what that
 // holds. The list keeps its slot; the slot of a child that was merged into the one before it is free then. A refused call changes no byte.
+#![tactic(auto)]
+
 ghost use Rattle.std.specs.Prelude.{◌≡◌, [], ◌+◌, ◌<◌, ◌≤◌, length};
 ghost use Rattle.plain.specs.Outcome.{Outcome.value};
 ghost use Rattle.pool.specs.Slot.{slot_start};

@@ -1,5 +1,7 @@
 // Two children of a list in the lent memory merged, or what they hold distributed between them. A port of `merge_distribute` of ropey's
 // `node_children.rs`. A refused call changes no byte.
+#![tactic(auto)]
+
 mod join;
 
 ghost use Rattle.std.specs.Prelude.{◌≡◌, true, ◌<◌, ◌≤◌};

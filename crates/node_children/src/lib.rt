@@ -1,6 +1,8 @@
 // The child list of a tree's node, by value. A port of ropey's `node_children.rs`; what splits and shares lists is in `child_split`. A list may be given with any length and anything in
 // its entries: one that is too long is refused. Where the Rust panics or asserts, a call refuses, and then it hands back the lists that
 // it was given. What is answered has zeros in every entry behind its children.
+#![tactic(auto)]
+
 mod inner;
 
 ghost use Rattle.std.specs.Prelude.{◌≡◌, [], eqb};
@@ -16,21 +18,21 @@ use pool::{Kid, MAX_CHILDREN};
 // The children that a list has at most.
 pub const MAX_LEN: usize = MAX_CHILDREN;
 
-#[derive(Drop)]
+#[derive(Clone, Copy)]
 pub struct NodeChildren {
     pub len: usize,
     pub arr: [Kid; MAX_LEN],
 }
 
 // A list: of a refused call the one that was given.
-#[derive(Drop)]
+#[derive(Clone, Copy)]
 pub struct Listed {
     pub verdict: Verdict,
     pub list: NodeChildren,
 }
 
 // A child taken out, and the list without it: of a refused call zeros, and the list that was given.
-#[derive(Drop)]
+#[derive(Clone, Copy)]
 pub struct Taken {
     pub verdict: Verdict,
     pub kid: Kid,
@@ -38,7 +40,7 @@ pub struct Taken {
 }
 
 // Two lists. A refused call hands back the list that was given and one without children; `distribute_with` the two that were given.
-#[derive(Drop)]
+#[derive(Clone, Copy)]
 pub struct Two {
     pub verdict: Verdict,
     pub left: NodeChildren,

@@ -1,6 +1,8 @@
 // One leaf of the tree: text in a region of bytes that the caller lends, of which the first `len` are the leaf. A port of ropey's
 // `node_text.rs`, of which the calls are in `leaf_edits` and `leaf_split`; here is the one edit that they are. It answers how long the leaf
 // is then; what lies behind it stays as it is. Where the Rust asserts, a call refuses, and then it changes no byte.
+#![tactic(auto)]
+
 ghost use Rattle.std.specs.Prelude.{◌≡◌, [], ◌∷◌, length};
 ghost use Rattle.plain.specs.Outcome.{ruled};
 ghost use Rattle.answer.specs.Answers.{number};

@@ -1,6 +1,8 @@
 // One node in its slot of the lent memory: a child list read into a value and written back, a child sought where the children lie, and
 // the counts of what lies below a node; a leaf's text is edited in `leaf_nodes`. A slot that holds no node of the kind that a call needs
 // is refused by 2; a refused call changes no byte.
+#![tactic(auto)]
+
 ghost use Rattle.std.specs.Prelude.{◌≡◌, false, [], ◌∷◌, ◌≤◌, take};
 ghost use Rattle.plain.specs.Outcome.{Outcome.value, Outcome.refused, ruled};
 ghost use Rattle.answer.specs.Answers.{refusal_number, verdict};

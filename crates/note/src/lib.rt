@@ -1,6 +1,8 @@
 // The public calls of a note in memory that the caller lends. Each takes the memory as it lies and is total: but for opening it is refused by 2 where
 // the memory is not well formed, and by the lowest number of document 01 that applies; a refused call changes no byte. What a call answers and leaves is
 // said on the plain note that the memory means (crate plain_calls).
+#![tactic(auto)]
+
 ghost use Rattle.std.specs.Prelude.{[]};
 ghost use Rattle.plain_calls.specs.Calls.{inserting, removing};
 ghost use Rattle.answer.specs.Answers.{change};

@@ -1,5 +1,7 @@
 // The calls of a note for C and Rust to link: opening, the check, and what reads; those that answer a number are in `numbers`. Each but the check
 // returns 0, or document 01's number of the refusal.
+#![tactic(auto)]
+
 mod numbers;
 
 ghost use Rattle.std.specs.Prelude.{◌≡◌, length};

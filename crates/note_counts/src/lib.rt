@@ -1,5 +1,7 @@
 // The note's four counts: its lengths by each, and an index of one turned into another. Refused by 2 where the memory is not well formed;
 // nothing beyond the note's need is looked at.
+#![tactic(auto)]
+
 mod leaf;
 
 ghost use Rattle.std.specs.Prelude.{◌≡◌, true, false, map, ◌+◌, ◌*◌, ◌≤◌, ◌<◌, length, get_or, set};
@@ -21,7 +23,7 @@ use text_info::{TextInfo, TextSum};
 use tree_search::{Spot, leaf_at};
 
 // What an index counts.
-#[derive(Drop)]
+#[derive(Clone, Copy)]
 pub enum Count {
     Bytes,
     Chars,

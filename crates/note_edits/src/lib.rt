@@ -1,5 +1,7 @@
 // The note edited: a piece put in, and a part taken out. Marks and edit number stay as they are. The steps inside ask for a memory that holds a note, and
 // are then accepted; what they answer is passed up all the same.
+#![tactic(auto)]
+
 ghost use Rattle.std.specs.Prelude.{◌≡◌, [], ◌⊎◌, ◌-◌, ◌≤◌, ◌<◌, length, take, drop};
 ghost use Rattle.plain.specs.Utf8.{decode};
 ghost use Rattle.plain.specs.Count.{cr_last, lf_first};

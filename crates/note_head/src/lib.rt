@@ -1,5 +1,7 @@
 // The head of the lent memory, read and written. Each reader is total on any bytes: a byte past the end counts as 0. Each writer is total too: memory
 // shorter than its head is refused by 2, and then no byte changes.
+#![tactic(auto)]
+
 ghost use Rattle.std.specs.Prelude.{◌≡◌, ◌<◌, ◌+◌, ◌≤◌, length};
 ghost use Rattle.plain_note.specs.Note.{head_size};
 ghost use Rattle.note_head.specs.Head.{n_of, edit_of, root_of, height_of, free_of, live_at, place_at, own_of};

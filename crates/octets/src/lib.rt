@@ -1,4 +1,6 @@
 // Bytes and big-endian numbers read anywhere in bytes. Each function is total: a byte past the end counts as 0.
+#![tactic(auto)]
+
 ghost use Rattle.std.specs.Prelude.{◌≡◌, ◌<◌, get_or};
 ghost use Rattle.octets.specs.Big.{two_at, four_at};
 

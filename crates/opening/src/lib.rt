@@ -1,4 +1,6 @@
 // Opening: lent memory, whatever it held, becomes an empty note of n slots without marks, its edit number 0.
+#![tactic(auto)]
+
 ghost use Rattle.std.specs.Prelude.{◌≡◌, ◌+◌, ◌-◌, ◌*◌, ◌≤◌, length};
 ghost use Rattle.plain_note.specs.Note.{head_size};
 ghost use Rattle.plain.specs.Outcome.{Outcome.value};

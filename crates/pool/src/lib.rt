@@ -1,6 +1,8 @@
 // Slots of the lent memory, one node of the tree in each: 640 bytes, behind the 6,144 of the memory's head. A slot has a head of its own
 // (its kind, a length, the next free slot) and a region of 512 bytes, which is a leaf's text or the sixteen entries of a child list. A
 // slot that does not lie wholly in the memory is refused by 2; a refused call changes no byte.
+#![tactic(auto)]
+
 mod big;
 
 ghost use Rattle.std.specs.Prelude.{◌≡◌, [], ◌∷◌, ◌+◌, ◌≤◌, length, get_or};
@@ -37,14 +39,14 @@ const LEAF: u8 = 1;
 const LIST: u8 = 2;
 
 // A child of a list: its slot, and the counts of the text below it.
-#[derive(Drop)]
+#[derive(Clone, Copy)]
 pub struct Kid {
     pub slot: u32,
     pub info: TextInfo,
 }
 
 // What a slot holds: it is free, and the next free slot; a leaf, or a child list, and its length.
-#[derive(Drop)]
+#[derive(Clone, Copy)]
 pub enum Head {
     Free(usize),
     Leaf(usize),
@@ -53,7 +55,7 @@ pub enum Head {
 }
 
 // An entry of a child list.
-#[derive(Drop)]
+#[derive(Clone, Copy)]
 pub enum Entry {
     Is(Kid),
     Refused(Refusal),

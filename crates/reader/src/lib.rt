@@ -1,5 +1,7 @@
 // A reader: a thin struct that holds the lent memory and a place, and hands out the note from there run by run. The memory is checked when the
 // reader is made, and not again: it stays lent, so it cannot change. Each function over a reader takes it apart and calls one on memory and place.
+#![tactic(auto)]
+
 ghost use Rattle.std.specs.Prelude.{◌≡◌, ◌+◌, ◌<◌, ◌^◌, length};
 ghost use Rattle.plain.specs.Outcome.{mapped};
 ghost use Rattle.plain_note.specs.Note.{read_from};
@@ -13,7 +15,7 @@ use note_head::{chars_of, own_part};
 use runs::run_refusal;
 use str_indices::chars;
 
-#[derive(Drop)]
+#[derive(Clone, Copy)]
 pub struct Reader<'a> {
     pool: &'a [u8],
     place: usize,

@@ -1,5 +1,7 @@
 // The calls that read the note's numbers: its lengths, under the names of ropey's `rope.rs`, n and the edit number. Each is refused by 2 where the memory
 // is not well formed, and looks at nothing beyond the note's need.
+#![tactic(auto)]
+
 ghost use Rattle.std.specs.Prelude.{◌≡◌, length};
 ghost use Rattle.plain.specs.Place.{bytes, units};
 ghost use Rattle.plain.specs.Count.{lines};

@@ -1,5 +1,7 @@
 // The program: reads a journal from standard input, of any length, and writes its listing to standard output. What a turn does is `journal::turn`'s; here
 // bytes are only moved, in behind the buffer's first `fill` and out of the output's first `put`. What fails is said on standard error.
+#![tactic(auto)]
+
 ghost use Rattle.std.specs.Prelude.{◌≡◌, false, ℕ, ◌≤◌, ◌<◌, length};
 ghost use Rattle.plain_note.specs.Note.{need};
 ghost use Rattle.plain_journal.specs.Replay.{slots};
@@ -11,7 +13,7 @@ use libc::{STDERR_FILENO, STDIN_FILENO, STDOUT_FILENO};
 use pool::{HEAD_BYTES, SLOT_BYTES};
 
 // Why the program cannot go on: the memory is too short, the fields have no more numbers, the journal cannot be read, or the listing cannot be written.
-#[derive(Drop)]
+#[derive(Clone, Copy)]
 enum Fault {
     Memory,
     Fields,
@@ -20,14 +22,14 @@ enum Fault {
 }
 
 // What became of a turn: the program goes on, or it ends.
-#[derive(Drop)]
+#[derive(Clone, Copy)]
 enum Pumped {
     On(State),
     Failed(Fault),
 }
 
 // How a run ended: the listing is complete, something failed, or all turns are taken.
-#[derive(Drop)]
+#[derive(Clone, Copy)]
 enum Ran {
     Over,
     Failed(Fault),

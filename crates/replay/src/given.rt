@@ -8,7 +8,7 @@ ghost use Rattle.replay.specs.Turns.{is_same};
 use answer::{Number, Refusal};
 
 // The number of a refusal, or 0, and the value, which is 0 beside a refusal.
-#[derive(Drop)]
+#[derive(Clone, Copy)]
 pub struct Given {
     pub refusal: u8,
     pub value: usize,

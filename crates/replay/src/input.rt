@@ -12,7 +12,7 @@ use crate::leaves;
 use libc::STDIN_FILENO;
 
 // What a record asks for: a call of the text layer by its number.
-#[derive(Drop)]
+#[derive(Clone, Copy)]
 struct Call {
     function: u8,
     index: usize,
@@ -20,7 +20,7 @@ struct Call {
 }
 
 // What reading finds: a record, with our answer and whether it is the recorded one; the end; or what is no record.
-#[derive(Drop)]
+#[derive(Clone, Copy)]
 pub enum Turn {
     Case {
         function: usize,

@@ -13,7 +13,7 @@ use answer::Sides;
 use libc::STDIN_FILENO;
 
 // What a record asks for: a leaf's call by its number.
-#[derive(Drop)]
+#[derive(Clone, Copy)]
 struct Question {
     call: u8,
     len: usize,

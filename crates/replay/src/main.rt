@@ -1,6 +1,8 @@
 // Replays recorded calls: reads records from standard input, calls the function that each names, and compares our answer with the
 // recorded one. Writes a line for the first record that differs, one for each function and one for all. At what is no record it says so
 // and stops.
+#![tactic(auto)]
+
 mod given;
 mod input;
 mod leaves;
@@ -12,7 +14,7 @@ ghost use Rattle.replay.specs.Turns.{sum, Counted, Sums, Adds};
 use input::Turn;
 
 // How a run ended: how many records there were and how many differ, or the place, from 1, of what is no record.
-#[derive(Drop)]
+#[derive(Clone, Copy)]
 enum Ran {
     Whole { records: u32, missed: u32 },
     Bad(u32),

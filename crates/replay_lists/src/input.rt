@@ -9,7 +9,7 @@ use pool::{HEAD_BYTES, Kid, SLOT_BYTES};
 use text_info::TextInfo;
 
 // What reading finds: a record, its call and whether our outcome is the recorded one; the end; or what is no record.
-#[derive(Drop)]
+#[derive(Clone, Copy)]
 pub enum Turn {
     Case { call: u8, is_same: bool },
     End,

@@ -7,7 +7,7 @@ use list_calls::Reply;
 use pool::Kid;
 
 // What a record asks for: a list's call by its number.
-#[derive(Drop)]
+#[derive(Clone, Copy)]
 pub struct Question {
     pub call: u8,
     pub slot: usize,
@@ -18,7 +18,7 @@ pub struct Question {
 }
 
 // Five numbers of an answer.
-#[derive(Drop)]
+#[derive(Clone, Copy)]
 pub struct Five {
     pub a: usize,
     pub b: usize,

@@ -1,6 +1,8 @@
 // Replays recorded calls of child lists: reads records from standard input, calls the function that each names on the memory that it
 // holds, and compares our outcome with the recorded one. Writes a line for the first record that differs and one for all. At what is no
 // record it says so and stops.
+#![tactic(auto)]
+
 mod input;
 mod judge;
 mod memory;
@@ -9,7 +11,7 @@ mod report;
 use input::Turn;
 
 // How a run ended: how many records there were and how many differ, or the place, from 1, of what is no record.
-#[derive(Drop)]
+#[derive(Clone, Copy)]
 enum Ran {
     Whole { records: u32, missed: u32 },
     Bad(u32),

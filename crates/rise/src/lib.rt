@@ -1,5 +1,7 @@
 // One step of an edit on its way up: what became of a child is put into its list. A child below its least size is joined with the one before
 // it, the first child with the one behind it.
+#![tactic(auto)]
+
 ghost use Rattle.std.specs.Prelude.{◌≡◌, ◌-◌};
 ghost use Rattle.edit_steps.specs.Made.{edit};
 ghost use Rattle.edit_steps.specs.Acts.{Did};

@@ -1,5 +1,7 @@
 // What became of the root is put into the memory's head: a root that was parted gets a list above it, and a root list of one child gives way to
 // that child.
+#![tactic(auto)]
+
 ghost use Rattle.std.specs.Prelude.{◌≡◌, [], ◌∷◌, ◌<◌};
 ghost use Rattle.plain.specs.Outcome.{Outcome.value};
 ghost use Rattle.answer.specs.Answers.{verdict};

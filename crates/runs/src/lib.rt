@@ -1,5 +1,7 @@
 // The note read without copying: runs of it, and the preview of an insertion. A run is a part of one leaf, a preview a part of a leaf or of the
 // piece; a refused call hands out an empty part, and its companion says why.
+#![tactic(auto)]
+
 ghost use Rattle.std.specs.Prelude.{◌≡◌, ◌⊎◌, ◌+◌};
 ghost use Rattle.plain.specs.Outcome.{mapped, past};
 ghost use Rattle.plain_note.specs.Note.{read_from, previewed};

@@ -1,4 +1,6 @@
 // One leaf of the note edited, from the root down and up again.
+#![tactic(auto)]
+
 ghost use Rattle.std.specs.Prelude.{◌≡◌};
 ghost use Rattle.answer.specs.Answers.{number, truth, verdict};
 ghost use Rattle.edit_steps.specs.Made.{edit};

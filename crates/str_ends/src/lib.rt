@@ -1,4 +1,6 @@
 // What ends a text: its last line, and the line break behind it. A port of ropey's `str_utils.rs`, as `str_utils`.
+#![tactic(auto)]
+
 ghost use Rattle.std.specs.Prelude.{◌≡◌, ◌≤◌, ltb, length};
 ghost use Rattle.plain.specs.Chars.{encode};
 ghost use Rattle.plain.specs.Outcome.{part};

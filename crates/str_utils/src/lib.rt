@@ -1,5 +1,7 @@
 // Helpers over a whole text, each equal to what the plain note counts. A port of ropey's `str_utils.rs`. A past-the-end index gives
 // the last line or the end, as there; bytes that are no well-formed text are refused by 5, where the Rust's `&str` rules them out.
+#![tactic(auto)]
+
 ghost use Rattle.std.specs.Prelude.{◌≡◌, length, take};
 ghost use Rattle.plain.specs.Count.{count_if, breaks, line_at, line_start};
 ghost use Rattle.plain.specs.Place.{is_pair, bytes, byte_at, place_of_byte, place_of_unit};

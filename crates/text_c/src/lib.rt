@@ -1,4 +1,6 @@
 // The text layer for C and Rust to link.
+#![tactic(auto)]
+
 ghost use Rattle.std.specs.Prelude.{◌≡◌};
 ghost use Rattle.plain.specs.Count.{count_if, breaks};
 ghost use Rattle.plain.specs.Place.{is_start, is_wide};

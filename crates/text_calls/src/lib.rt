@@ -1,5 +1,7 @@
 // Every call of the text layer by its number, with one form of question and answer: what the replayed sample and the programs in C
 // and Rust ask through. A truth is told as 1 or 0, a part by its length.
+#![tactic(auto)]
+
 ghost use Rattle.std.specs.Prelude.{◌≡◌};
 ghost use Rattle.plain.specs.Place.{bytes};
 ghost use Rattle.plain.specs.Count.{trimmed};
@@ -9,7 +11,7 @@ ghost use Rattle.text_calls.specs.Asked.{counted, seam_at, asked, asked_by};
 
 use answer::{Number, Refusal, Truth, Verdict};
 
-#[derive(Drop)]
+#[derive(Clone, Copy)]
 pub enum Call {
     IsBreak,
     SeamIsBreak,

@@ -1,5 +1,7 @@
 // The check of a tree in the lent memory, whatever bytes this has. It walks node and child list in turn, one level down at each list, and
 // marks the slots that it meets: a slot met twice ends it, so it is linear in the memory.
+#![tactic(auto)]
+
 mod texts;
 
 ghost use Rattle.std.specs.Prelude.{◌≡◌, false, ◌≤◌};
@@ -15,14 +17,14 @@ use pool::{Head, child_of, head_of, info_of};
 use text_info::{Info, TextSum};
 
 // A sound tree: the counts of its text, whether this begins with LF, and whether it ends in CR.
-#[derive(Drop)]
+#[derive(Clone, Copy)]
 pub enum Met {
     Fine(TextSum, bool, bool),
     Bad,
 }
 
 // What a slot can be in the tree, with its length.
-#[derive(Drop)]
+#[derive(Clone, Copy)]
 enum Shape {
     Leaf(usize),
     List(usize),

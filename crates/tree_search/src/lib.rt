@@ -1,5 +1,7 @@
 // A leaf sought in the tree by an index, one level down at each step. Total on any bytes: where a slot on the way holds no list, refused
 // by 2; where the index is past the end of what lies below one, by 3.
+#![tactic(auto)]
+
 ghost use Rattle.std.specs.Prelude.{◌≡◌, ◌-◌};
 ghost use Rattle.child_search.specs.Sought.{Within};
 ghost use Rattle.tree.specs.Tree.{plus_sum};
@@ -11,14 +13,14 @@ use pool::child_of;
 use text_info::TextSum;
 
 // A leaf's slot, and the counts of the text on its left.
-#[derive(Drop)]
+#[derive(Clone, Copy)]
 pub enum Spot {
     At(usize, TextSum),
     Refused(Refusal),
 }
 
 // A child of a list: its index, its slot, and the counts of the text on its left.
-#[derive(Drop)]
+#[derive(Clone, Copy)]
 pub enum Branch {
     At(usize, usize, TextSum),
     Refused(Refusal),
