@@ -1,0 +1,19 @@
+-- `is_info_accurate` meets its contract.
+use mathlib.Core.Path.{sym, ap, ◌∙◌}
+use Prim.Native.Nat.{ℕ}
+use Rattle.plain.specs.Outcome.{Outcome.refused}
+use Rattle.child_info.proofs.Rules.{list_read, list-unread, accurate-no}
+use Rattle.child_info.proofs.is_info_accurate.Goals as goal
+
+pub accurate_in-requires : goal.accurate_in-requires
+accurate_in-requires c =
+    let a = c.args in
+    let l = c.load-found in
+    list_read a.m.now a.slot l.result l.ensures c.in-Accepted.is
+
+pub returns-in-Refused : goal.returns-in-Refused
+returns-in-Refused c =
+    let a = c.args in
+    let l = c.load-found in
+    let u = list-unread a.m.now a.slot l.result l.ensures _ c.in-Refused.is in
+    ap (λ (n : ℕ). refused n) u.1 ∙ sym (accurate-no a.m.now a.slot u.0)

@@ -1,0 +1,5 @@
+-- `search_line_break_idx` meets its contract.
+use Rattle.child_search.proofs.search_line_break_idx.Goals as goal
+
+pub returns : goal.returns
+returns c = c.search_by.ensures.0

@@ -1,0 +1,5 @@
+-- `search_utf16_code_unit_idx` meets its contract.
+use Rattle.child_search.proofs.search_utf16_code_unit_idx.Goals as goal
+
+pub returns : goal.returns
+returns c = c.search_by.ensures.0

@@ -1,0 +1,9 @@
+-- `told_if` meets its contract: for each of the two answers.
+use mathlib.Core.Path.{sym}
+use Rattle.compact.proofs.pack.told_if.Goals as goal
+
+pub returns-in-Refused : goal.returns-in-Refused
+returns-in-Refused c = sym (rw c.in-Refused.is)
+
+pub returns-in-Is : goal.returns-in-Is
+returns-in-Is c = sym (rw c.in-Is.is)

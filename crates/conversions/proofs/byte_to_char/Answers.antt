@@ -1,0 +1,5 @@
+-- `byte_to_char` meets its contract.
+use Rattle.conversions.proofs.byte_to_char.Goals as goal
+
+pub returns : goal.returns
+returns c = c.convert.ensures

@@ -1,0 +1,9 @@
+-- `crlf::prev_break` meets its contract: refused past the end, else what `break_below` ensures.
+use Rattle.crlf.proofs.Laws.{at-past, at_in}
+use Rattle.crlf.proofs.prev_break.Goals as goal
+
+pub returns-then-text-byte_idx : goal.returns-then-text-byte_idx
+returns-then-text-byte_idx c = at-past _ _ _ c.if-text-byte_idx.true
+
+pub returns : goal.returns
+returns c = at_in _ _ _ _ c.if-text-byte_idx.false c.break_below.ensures

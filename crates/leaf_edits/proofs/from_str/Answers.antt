@@ -1,0 +1,5 @@
+-- `from_str` meets its contract.
+use Rattle.leaf_edits.proofs.from_str.Goals as goal
+
+pub returns : goal.returns
+returns c = c.edit.ensures

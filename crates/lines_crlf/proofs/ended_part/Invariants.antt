@@ -1,0 +1,12 @@
+-- `ended_part` meets its contract. The loop's invariant: what has been counted, with what is still to come, is the count from a on.
+use mathlib.Core.Path.{◌≡◌}
+use Prim.Native.Nat.{◌+◌, ◌-◌, ◌≤◌}
+use lib.ListN.{drop}
+use Rattle.plain.specs.Count.{breaks}
+use Rattle.lines_crlf.proofs.ended_part.Given as goal
+
+abbrev pub invariant-loop-i : goal.invariant-loop-i
+invariant-loop-i l = (l.a ≤ l.i) × (l.i ≤ l.e) × (l.n ≤ l.i - l.a) × (l.n + breaks (drop l.i l.text) ≡ breaks (drop l.a l.text))
+
+abbrev pub decreases-loop-i : goal.decreases-loop-i
+decreases-loop-i l = l.e - l.i

@@ -1,0 +1,7 @@
+-- `ends_last` meets its contract: the test as a number.
+use Rattle.str_indices.proofs.Laws.{test-is}
+use Rattle.lines_crlf.proofs.Laws.{ends-alone}
+use Rattle.lines_crlf.proofs.ends_last.Goals as goal
+
+pub returns : goal.returns
+returns c = test-is _ _ (ends-alone c.args.b)

@@ -1,0 +1,9 @@
+-- `of_verdict` meets its contract: for each of the two verdicts.
+use mathlib.Core.Path.{sym}
+use Rattle.list_calls.proofs.replies.of_verdict.Goals as goal
+
+pub returns-in-Accepted : goal.returns-in-Accepted
+returns-in-Accepted c = sym (rw c.in-Accepted.is)
+
+pub returns-in-Refused : goal.returns-in-Refused
+returns-in-Refused c = sym (rw c.in-Refused.is)

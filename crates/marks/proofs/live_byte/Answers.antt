@@ -1,0 +1,7 @@
+-- `live_byte` meets its contract.
+use Rattle.note_head.specs.Head.{live_at}
+use Rattle.marks.proofs.live_byte.Goals as goal
+
+pub returns : goal.returns
+unfolding live_at
+returns c = c.wide.ensures

@@ -1,0 +1,16 @@
+-- `join_leaves` meets its contract: the right text is read, and joined.
+use mathlib.Core.Path.{refl}
+use Rattle.child_info.proofs.TextRead.{read-never, read-text, read-room, read-size}
+use Rattle.merge.proofs.join.join_leaves.Goals as goal
+
+pub slice_bounds-text-end : goal.slice_bounds-text-end
+slice_bounds-text-end c = read-room c.args.m.now c.args.b _ c.requires.0.right refl c.text_of.result _ c.text_of.ensures _ c.in-Is.is
+
+pub slice_bounds-join_text-end : goal.slice_bounds-join_text-end
+slice_bounds-join_text-end c = read-size c.args.m.now c.args.b _ c.requires.0.right refl c.text_of.result _ c.text_of.ensures _ c.in-Is.is
+
+pub join_text-requires : goal.join_text-requires
+join_text-requires c = (c.requires.0, c.requires.1, read-text c.args.m.now c.args.b _ c.requires.0.right refl c.text_of.result _ c.text_of.ensures _ c.in-Is.is)
+
+pub returns-in-Refused : goal.returns-in-Refused
+returns-in-Refused c = absurd (read-never c.args.m.now c.args.b _ c.requires.0.right refl c.text_of.result _ c.text_of.ensures _ c.in-Refused.is)

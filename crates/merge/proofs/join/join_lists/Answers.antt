@@ -1,0 +1,20 @@
+-- `join_lists` meets its contract: both lists are read, and joined.
+use Rattle.merge.proofs.JoinedLists.{load-list, load-never}
+use Rattle.merge.proofs.join.join_lists.Goals as goal
+
+pub join_read-requires : goal.join_read-requires
+join_read-requires c =
+    let a = c.args in
+    let p = c.requires in
+    let l = load-list a.m.now a.a p.0 c.load-left.result c.load-left.ensures in
+    let r = load-list a.m.now a.b p.1 c.load-right.result c.load-right.ensures in
+    (p.0, p.1, l.0, r.0, l.1, r.1)
+
+pub returns-in-Refused : goal.returns-in-Refused
+returns-in-Refused c = load-never c.args.m.now c.args.a c.requires.0 c.load-left.result c.load-left.ensures _ c.in-Refused.is
+
+pub returns-in-Refused-too : goal.returns-in-Refused-too
+returns-in-Refused-too c = load-never c.args.m.now c.args.b c.requires.1 c.load-right.result c.load-right.ensures _ c.in-Refused-too.is
+
+pub returns-in-Accepted-too : goal.returns-in-Accepted-too
+returns-in-Accepted-too c = c.join_read.ensures

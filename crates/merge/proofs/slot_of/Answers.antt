@@ -1,0 +1,10 @@
+-- `slot_of` meets its contract.
+use mathlib.Core.Path.{sym, ap, ◌∙◌}
+use native.Mathlib.Omega.{arith}
+use lib.Seq.{get_or-take}
+use Rattle.pool.specs.declared.Kid.{Kid}
+use Rattle.pool.specs.Slot.{no_kid}
+use Rattle.merge.proofs.slot_of.Goals as goal
+
+pub returns : goal.returns
+returns c = let a = c.args in c.index_of.ensures ∙ sym (ap (λ (k : Kid). k.slot) (get_or-take a.t1.len a.t1.arr a.idx no_kid (omega arith)))

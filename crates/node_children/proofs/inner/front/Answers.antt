@@ -1,0 +1,16 @@
+-- `front` meets its contract.
+use mathlib.Core.Path.{refl}
+use mathlib.Core.List.{[]}
+use native.Mathlib.Omega.{arith}
+use lib.ListN.{take}
+use Rattle.node_children.specs.Kids.{kids}
+use Rattle.node_children.proofs.Lists.{holds_same, append-holds}
+use Rattle.node_children.proofs.inner.front.Goals as goal
+
+pub append-requires : goal.append-requires
+append-requires c = (omega arith, omega arith, omega arith, omega (arith, c.empty.ensures.len), c.empty.ensures.clean)
+
+pub returns : goal.returns
+returns c =
+    let a = c.args in
+    holds_same c.append.result _ _ _ _ (omega (arith, c.empty.ensures.len)) refl (append-holds [] c.empty.result c.append.result _ _ (take a.end (kids a.list)) c.empty.ensures c.append.ensures)

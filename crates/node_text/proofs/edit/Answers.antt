@@ -1,0 +1,29 @@
+-- `edit` meets its contract: its own rules are asked first, and the layer below asks the rest.
+use mathlib.Core.Path.{sym, ap}
+use native.Mathlib.Omega.{arith}
+use lib.ListN.{length-take}
+use lib.Seq.{length-take-le}
+use Rattle.answer.specs.Answers.{number}
+use Rattle.leaf_bytes.proofs.Rules.{leaf-refused, leaf-same}
+use Rattle.node_text.proofs.Checks.{edit-refused, edit-replaces}
+use Rattle.node_text.proofs.edit.Goals as goal
+
+pub slice_bounds-checked-end : goal.slice_bounds-checked-end
+slice_bounds-checked-end c = omega (arith, c.held-n.ensures, length-take c.args.len c.args.region.now)
+
+pub slice_bounds-checked-end-2 : goal.slice_bounds-checked-end-2
+slice_bounds-checked-end-2 c = sym (length-take-le c.held-n.result c.args.region.now (omega (arith, c.held-n.ensures, length-take c.args.len c.args.region.now)))
+
+pub returns-in_default : goal.returns-in_default
+returns-in_default c =
+    let a = c.args in
+    leaf-refused _ _ _ _
+    (edit-refused a.region.now a.len a.start a.end a.piece.now _ c.held-n.ensures _ c.checked-fits.ensures _ c.in_default.is)
+    (ap number c.in_default.is)
+
+pub returns : goal.returns
+returns c =
+    let a = c.args in
+    leaf-same _ _ _ _ _
+    (edit-replaces a.region.now a.len a.start a.end a.piece.now _ c.held-n.ensures _ c.checked-fits.ensures _ c.in-Is.is)
+    c.replace.ensures

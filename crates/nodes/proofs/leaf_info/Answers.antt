@@ -1,0 +1,20 @@
+-- `leaf_info` meets its contract: the text is the part of the memory that is lent.
+use mathlib.Core.Path.{ap, ◌∙◌}
+use native.Mathlib.Omega.{arith}
+use Rattle.text_info.specs.Info.{leaf_info}
+use Rattle.pool.proofs.Opened.{region-opened}
+use Rattle.nodes.proofs.Heads.{inside}
+use Rattle.nodes.proofs.Laid.{region-there, text-lent}
+use Rattle.nodes.proofs.leaf_info.Goals as goal
+
+pub overflow_add-at : goal.overflow_add-at
+overflow_add-at c = let a = c.args in omega (arith, region-opened c.region_start.result a.m.now a.slot _ c.region_start.ensures c.in-Is.is)
+
+pub returns-in-Refused : goal.returns-in-Refused
+returns-in-Refused c = let a = c.args in absurd (region-there c.region_start.result a.m.now a.slot _ c.region_start.ensures c.in-Refused.is (inside a.m.now a.slot c.requires.0))
+
+pub returns-in-Is : goal.returns-in-Is
+returns-in-Is c =
+    let a = c.args in
+    let o = region-opened c.region_start.result a.m.now a.slot _ c.region_start.ensures c.in-Is.is in
+    c.from_str.ensures ∙ ap leaf_info (text-lent a.m.now a.slot _ a.n o.1 c.requires.1)

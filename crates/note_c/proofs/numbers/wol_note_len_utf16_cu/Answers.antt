@@ -1,0 +1,6 @@
+-- `note_c::numbers::wol_note_len_utf16_cu` meets its contract: what `len_utf16_cu` ensures, told.
+use Rattle.note_c.proofs.Laws.{told}
+use Rattle.note_c.proofs.numbers.wol_note_len_utf16_cu.Goals as goal
+
+pub returns : goal.returns
+returns c = told _ _ _ _ _ c.len_utf16_cu.ensures c.tell.ensures

@@ -1,0 +1,6 @@
+-- `note_c::numbers::wol_note_mark_line` meets its contract: what `mark_line` ensures, told.
+use Rattle.note_c.proofs.Laws.{told}
+use Rattle.note_c.proofs.numbers.wol_note_mark_line.Goals as goal
+
+pub returns : goal.returns
+returns c = told _ _ _ _ _ c.mark_line.ensures c.tell.ensures

@@ -1,0 +1,7 @@
+-- `chars_of` meets its contract: what the head says.
+use mathlib.Core.Path.{ap, ◌∙◌}
+use Rattle.pool.specs.declared.Kid.{Kid}
+use Rattle.note_head.proofs.chars_of.Goals as goal
+
+pub returns : goal.returns
+returns c = (c.wide.ensures.0 ∙ ap (λ (k : Kid). k.info.chars) c.root-kid.ensures, c.wide.ensures.1)

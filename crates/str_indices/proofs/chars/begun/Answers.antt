@@ -1,0 +1,8 @@
+-- `chars::begun` meets its contract: the test as a number.
+use Rattle.plain.specs.Place.{start_chars}
+use Rattle.str_indices.proofs.Laws.{test-is}
+use Rattle.str_indices.proofs.chars.begun.Goals as goal
+
+pub returns : goal.returns
+unfolding start_chars
+returns c = test-is _ _ c.starts.ensures

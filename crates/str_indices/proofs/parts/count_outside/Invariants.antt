@@ -1,0 +1,13 @@
+-- `parts::count_outside` meets its contract. The loop's invariant: what has been counted, with what is still to come, is the whole count.
+use mathlib.Core.Path.{◌≡◌}
+use Prim.Native.Nat.{◌+◌, ◌-◌, ◌≤◌}
+use lib.ListN.{length, drop}
+use Rattle.plain.specs.Count.{count_if}
+use Rattle.str_indices.specs.Out.{is_out}
+use Rattle.str_indices.proofs.parts.count_outside.Given as goal
+
+abbrev pub invariant-loop-i : goal.invariant-loop-i
+invariant-loop-i l = (l.i ≤ length l.text) × (l.n ≤ l.i) × (l.n + count_if (is_out l.lo l.hi) (drop l.i l.text) ≡ count_if (is_out l.lo l.hi) l.text)
+
+abbrev pub decreases-loop-i : goal.decreases-loop-i
+decreases-loop-i l = length l.text - l.i

@@ -1,0 +1,15 @@
+-- `str_utils::byte_to_char_idx` meets its contract: the chars of the bytes up to the floor.
+use lib.ListN.{take}
+use Rattle.plain.specs.Count.{count_if}
+use Rattle.plain.specs.Place.{is_start, floor_of}
+use Rattle.str_utils.proofs.Laws.{char-of-byte, text-is, text-passed, text-valid}
+use Rattle.str_utils.proofs.byte_to_char_idx.Goals as goal
+
+pub returns-in_default : goal.returns-in_default
+returns-in_default c = text-passed _ _ _ c.checked-whole.ensures _ _ c.in_default.is
+
+pub returns : goal.returns
+returns c =
+    let text = c.args.text.now in
+    text-is text _ (λ s. count_if is_start (take (floor_of s c.args.byte-idx) s)) (char-of-byte c.args.byte-idx) _ (text-valid text _ _ c.checked-whole.ensures _ c.in-Is.is)
+    c.from_byte_idx.ensures

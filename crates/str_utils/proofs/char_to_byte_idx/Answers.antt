@@ -1,0 +1,14 @@
+-- `str_utils::char_to_byte_idx` meets its contract: the byte at which the char begins.
+use Rattle.plain.specs.Place.{start_chars, place_of}
+use Rattle.plain.proofs.Place.{byte-of-char}
+use Rattle.str_utils.proofs.Laws.{text-is, text-passed, text-valid}
+use Rattle.str_utils.proofs.char_to_byte_idx.Goals as goal
+
+pub returns-in_default : goal.returns-in_default
+returns-in_default c = text-passed _ _ _ c.checked-whole.ensures _ _ c.in_default.is
+
+pub returns : goal.returns
+returns c =
+    let text = c.args.text.now in
+    text-is text _ (λ s. place_of start_chars s c.args.char-idx) (λ cs. byte-of-char cs c.args.char-idx) _ (text-valid text _ _ c.checked-whole.ensures _ c.in-Is.is)
+    c.to_byte_idx.ensures

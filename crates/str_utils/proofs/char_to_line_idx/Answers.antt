@@ -1,0 +1,15 @@
+-- `str_utils::char_to_line_idx` meets its contract: the line of the char's byte.
+use mathlib.Core.Path.{ap, ◌∙◌}
+use Rattle.plain.specs.Count.{line_at}
+use Rattle.plain.specs.Place.{start_chars, place_of}
+use Rattle.str_utils.proofs.Laws.{line-of-char, text-is, text-passed, text-valid}
+use Rattle.str_utils.proofs.char_to_line_idx.Goals as goal
+
+pub returns-in_default : goal.returns-in_default
+returns-in_default c = text-passed _ _ _ c.checked-whole.ensures _ _ c.in_default.is
+
+pub returns : goal.returns
+returns c =
+    let text = c.args.text.now in
+    text-is text _ (λ s. line_at s (place_of start_chars s c.args.char-idx)) (line-of-char c.args.char-idx) _ (text-valid text _ _ c.checked-whole.ensures _ c.in-Is.is)
+    (c.from_byte_idx.ensures ∙ ap (line_at text) c.to_byte_idx.ensures)

@@ -1,0 +1,17 @@
+-- `str_utils::line_to_char_idx` meets its contract: the char of the line's byte.
+use mathlib.Core.Path.{ap, ◌∙◌}
+use Prim.Native.Nat.{ℕ}
+use lib.ListN.{take}
+use Rattle.plain.specs.Count.{count_if, line_start}
+use Rattle.plain.specs.Place.{is_start, floor_of}
+use Rattle.str_utils.proofs.Laws.{char-of-line, text-is, text-passed, text-valid}
+use Rattle.str_utils.proofs.line_to_char_idx.Goals as goal
+
+pub returns-in_default : goal.returns-in_default
+returns-in_default c = text-passed _ _ _ c.checked-whole.ensures _ _ c.in_default.is
+
+pub returns : goal.returns
+returns c =
+    let text = c.args.text.now in
+    text-is text _ (λ s. count_if is_start (take (floor_of s (line_start s c.args.line-idx)) s)) (char-of-line c.args.line-idx) _ (text-valid text _ _ c.checked-whole.ensures _ c.in-Is.is)
+    (c.from_byte_idx.ensures ∙ ap (λ (n : ℕ). count_if is_start (take (floor_of text n) text)) c.to_byte_idx.ensures)

@@ -1,0 +1,21 @@
+-- `check_leaf` meets its contract: the text is the part of the memory that is lent.
+use native.Mathlib.Omega.{arith}
+use Rattle.leaf_bytes.specs.Leaf.{leaf_of}
+use Rattle.pool.specs.Slot.{region_of}
+use Rattle.pool.proofs.Opened.{region-opened}
+use Rattle.nodes.proofs.Heads.{inside}
+use Rattle.nodes.proofs.Laid.{region-there, text-lent}
+use Rattle.tree_check.proofs.Ends.{text_same}
+use Rattle.tree_check.proofs.texts.check_leaf.Goals as goal
+
+pub overflow_add-at : goal.overflow_add-at
+overflow_add-at c = let a = c.args in omega (arith, region-opened c.region_start.result a.m.now a.slot _ c.region_start.ensures c.in-Is.is)
+
+pub returns-in-Refused : goal.returns-in-Refused
+returns-in-Refused c = let a = c.args in absurd (region-there c.region_start.result a.m.now a.slot _ c.region_start.ensures c.in-Refused.is (inside a.m.now a.slot c.requires.0))
+
+pub returns-in-Is : goal.returns-in-Is
+returns-in-Is c =
+    let a = c.args in
+    let o = region-opened c.region_start.result a.m.now a.slot _ c.region_start.ensures c.in-Is.is in
+    text_same _ (leaf_of (region_of a.m.now a.slot) a.n) (text-lent a.m.now a.slot _ a.n o.1 c.requires.1) c.check_text.result c.check_text.ensures
