@@ -80,6 +80,7 @@ from-length (suc n) b = ap suc (from-length n (drop 20 b))
 
 from_at : (n i : ℕ) (b : List ℕ) → i < n → get_or (kids_from n b) i no_kid ≡ kid_at b (20 * i)
 unfolding kids_from
+from_at zero i b h = elim h [ ]
 from_at (suc n) zero b h = refl
 from_at (suc n) (suc i) b h =
     let e : 20 + 20 * i ≡ 20 * suc i = omega arith in
@@ -87,6 +88,7 @@ from_at (suc n) (suc i) b h =
 
 from-put : (n i : ℕ) (b : List ℕ) (k : Kid) → Fits k → i < n → 20 * n ≤ length b → kids_from n (overlaid (20 * i) (kid_bytes k) b) ≡ set (kids_from n b) i k
 unfolding kids_from
+from-put zero i b k f h l = elim h [ ]
 from-put (suc n) zero b k f h l = rw (kid-length k, kid-back k (drop 20 b) f, kid-rest k (drop 20 b))
 from-put (suc n) (suc i) b k f h l =
     let e : 20 * suc i ≡ 20 + 20 * i = omega arith in

@@ -16,7 +16,7 @@ pub overflow_sub-last : goal.overflow_sub-last
 overflow_sub-last c = omega arith
 
 pub loop-i-init : goal.loop-i-init
-loop-i-init c = (omega arith, simp length-map at c.type_inv.0.1.1.1.0.1.0.1, c.requires.2, refl)
+loop-i-init c = (omega arith, simp length-map at c.well_formed.0.1.1.1.0.1.0.1, c.requires.2, refl)
 
 pub offset_bounds-list-i : goal.offset_bounds-list-i
 offset_bounds-list-i c = omega arith
@@ -36,7 +36,7 @@ pub returns-then-stops : goal.returns-then-stops
 returns-then-stops c =
     let l = c.loop-i in
     let a = c.args in
-    let t = a.t1 in
+    let t = a.list in
     let w = kids-length t (omega arith) l.invariant.1 in
     let g = ap (λ (k : Kid). k.info) (sym (get_or-take t.len t.arr l.i no_kid (omega arith))) in
     record {
@@ -55,7 +55,7 @@ pub loop-i-preserved : goal.loop-i-preserved
 loop-i-preserved c =
     let l = c.loop-i in
     let a = c.args in
-    let t = a.t1 in
+    let t = a.list in
     let w = kids-length t (omega arith) l.invariant.1 in
     let g = ap (λ (k : Kid). k.info) (sym (get_or-take t.len t.arr l.i no_kid (omega arith))) in (
       omega arith,
@@ -68,6 +68,6 @@ pub returns : goal.returns
 returns c =
     let l = c.loop-i in
     let a = c.args in
-    let t = a.t1 in
+    let t = a.list in
     let w = kids-length t (omega arith) l.invariant.1 in
     record { is = last (stops_at a.m a.at) (kids t) l.i l.left (omega arith) ∙ l.invariant.3; child = omega arith; small = l.invariant.2 }

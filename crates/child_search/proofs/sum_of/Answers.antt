@@ -19,7 +19,7 @@ pub new-acc-requires : goal.new-acc-requires
 new-acc-requires c = tt
 
 pub loop-i-init : goal.loop-i-init
-loop-i-init c = (omega arith, simp length-map at c.type_inv.0.1.1.1.0.1.0.1, within_none c.new-acc.result c.new-acc.ensures, ap (λ (s : TextSum). sum_from s (kids c.args.t1)) c.new-acc.ensures)
+loop-i-init c = (omega arith, simp length-map at c.well_formed.0.1.1.1.0.1.0.1, within_none c.new-acc.result c.new-acc.ensures, ap (λ (s : TextSum). sum_from s (kids c.args.list)) c.new-acc.ensures)
 
 pub offset_bounds-list-i : goal.offset_bounds-list-i
 offset_bounds-list-i c = omega arith
@@ -39,7 +39,7 @@ loop-i-smaller c = omega arith
 pub loop-i-preserved : goal.loop-i-preserved
 loop-i-preserved c =
     let l = c.loop-i in
-    let t = c.args.t1 in
+    let t = c.args.list in
     let w = length-take t.len t.arr in
     let g = ap (λ (k : Kid). k.info) (sym (get_or-take t.len t.arr l.i no_kid (omega arith))) in (
       omega arith,
@@ -51,6 +51,6 @@ loop-i-preserved c =
 pub returns : goal.returns
 returns c =
     let l = c.loop-i in
-    let t = c.args.t1 in
+    let t = c.args.list in
     let w = length-take t.len t.arr in
     (sum-end (kids t) l.i l.acc (omega arith) ∙ l.invariant.3, within_more l.acc l.i 16 (omega arith) l.invariant.2)

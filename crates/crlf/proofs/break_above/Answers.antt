@@ -21,7 +21,7 @@ loop-boundary_idx-smaller c = let h = no-break-end _ _ (sym c.breaks_at.ensures 
 
 pub loop-boundary_idx-preserved : goal.loop-boundary_idx-preserved
 loop-boundary_idx-preserved c =
-    let b = c.loop-boundary_idx.boundary-idx in
+    let b = c.loop-boundary_idx.boundary_idx in
     let none = sym c.breaks_at.ensures ∙ not-true _ c.loop-boundary_idx-test.true-raw in
     let h = no-break-end _ _ none in
     (omega arith, omega arith, first-up _ b _ (omega arith) none ∙ c.loop-boundary_idx.invariant.2)

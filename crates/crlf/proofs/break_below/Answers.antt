@@ -14,7 +14,7 @@ pub overflow_sub-boundary_idx-in-loop-boundary_idx : goal.overflow_sub-boundary_
 overflow_sub-boundary_idx-in-loop-boundary_idx c = no-break-pos _ _ (sym c.breaks_at.ensures ∙ not-true _ c.loop-boundary_idx-test.true-raw)
 
 pub loop-boundary_idx-smaller : goal.loop-boundary_idx-smaller
-loop-boundary_idx-smaller c = let h : 0 < c.loop-boundary_idx.boundary-idx = no-break-pos _ _ (sym c.breaks_at.ensures ∙ not-true _ c.loop-boundary_idx-test.true-raw) in omega arith
+loop-boundary_idx-smaller c = let h : 0 < c.loop-boundary_idx.boundary_idx = no-break-pos _ _ (sym c.breaks_at.ensures ∙ not-true _ c.loop-boundary_idx-test.true-raw) in omega arith
 
 pub loop-boundary_idx-preserved : goal.loop-boundary_idx-preserved
 loop-boundary_idx-preserved c = (omega arith, last-down _ _ (sym c.breaks_at.ensures ∙ not-true _ c.loop-boundary_idx-test.true-raw) ∙ c.loop-boundary_idx.invariant.1)

@@ -33,13 +33,13 @@ overflow_sub-right c =
     let before-says = c.left_break-before.ensures in
     let behind-says = c.next_break-behind.ensures in
     let h = (index_in _ _ _ _ before-says _ before-is) in
-    omega (arith, (index-value _ _ _ _ behind-says _ behind-is), next-ge c.args.text.now c.args.byte-idx h)
+    omega (arith, (index-value _ _ _ _ behind-says _ behind-is), next-ge c.args.text.now c.args.byte_idx h)
 
 pub overflow_sub-byte_idx : goal.overflow_sub-byte_idx
 overflow_sub-byte_idx c =
     let before-is = c.in-Is.is in
     let before-says = c.left_break-before.ensures in
-    omega (arith, (index-value _ _ _ _ before-says _ before-is), left_le c.args.text.now c.args.byte-idx)
+    omega (arith, (index-value _ _ _ _ before-says _ before-is), left_le c.args.text.now c.args.byte_idx)
 
 pub returns-then-right-byte_idx : goal.returns-then-right-byte_idx
 returns-then-right-byte_idx c =

@@ -12,21 +12,19 @@ use Rattle.leaf_calls.proofs.beside.Goals as goal
 pub returns-then-right_len-right : goal.returns-then-right_len-right
 returns-then-right_len-right c =
     let a = c.args in
-    let n = c.n-in-Is-1.given in
-    let long = length (leaf_of a.right.now a.right-len) in
-    let is : a.right-len ≡ long = omega (arith, length-take a.right-len a.right.now) in
-    ap (λ (k : ℕ). value (n.0.0, k)) is ∙ sym (ap (λ (x : Number). mapped (λ k. (k, long)) (number x)) n.1)
+    let long = length (leaf_of a.right.now a.right_len) in
+    let is : a.right_len ≡ long = omega (arith, length-take a.right_len a.right.now) in
+    ap (λ (k : ℕ). value (c.in-Is.n, k)) is ∙ sym (ap (λ (x : Number). mapped (λ k. (k, long)) (number x)) c.in-Is.is)
 
 pub returns-in-Refused : goal.returns-in-Refused
 returns-in-Refused c =
     let a = c.args in
-    let long = length (leaf_of a.right.now a.right-len) in
+    let long = length (leaf_of a.right.now a.right_len) in
     sym (ap (λ (x : Number). mapped (λ k. (k, long)) (number x)) c.in-Refused.is)
 
 pub returns-else-right_len-right : goal.returns-else-right_len-right
 returns-else-right_len-right c =
     let a = c.args in
-    let n = c.n-in-Is-1.given in
-    let long = length (leaf_of a.right.now a.right-len) in
-    let is : length a.right.now ≡ long = omega (arith, length-take a.right-len a.right.now) in
-    ap (λ (k : ℕ). value (n.0.0, k)) is ∙ sym (ap (λ (x : Number). mapped (λ k. (k, long)) (number x)) n.1)
+    let long = length (leaf_of a.right.now a.right_len) in
+    let is : length a.right.now ≡ long = omega (arith, length-take a.right_len a.right.now) in
+    ap (λ (k : ℕ). value (c.in-Is.n, k)) is ∙ sym (ap (λ (x : Number). mapped (λ k. (k, long)) (number x)) c.in-Is.is)

@@ -9,4 +9,4 @@ use Rattle.leaf_edits.proofs.truncate.Goals as goal
 pub returns : goal.returns
 returns c =
     let a = c.args in
-    leaf-same _ _ _ _ _ (ap (λ (n : ℕ). edited a.region.now a.len a.byte-idx n []) c.held-n.ensures) c.edit.ensures
+    leaf-same _ _ _ _ _ (ap (λ (n : ℕ). edited a.region.now a.len a.byte_idx n []) c.held-n.ensures) c.edit.ensures

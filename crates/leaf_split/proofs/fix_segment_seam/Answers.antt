@@ -8,27 +8,27 @@ use Rattle.node_text.proofs.Checks.{seam-refused, seam-mends}
 use Rattle.leaf_split.proofs.fix_segment_seam.Goals as goal
 
 pub slice_bounds-checked_seam-end : goal.slice_bounds-checked_seam-end
-slice_bounds-checked_seam-end c = omega (arith, c.held-a.ensures, length-take c.args.l-len c.args.l.now)
+slice_bounds-checked_seam-end c = omega (arith, c.held-a.ensures, length-take c.args.l_len c.args.l.now)
 
 pub slice_bounds-checked_seam-end-2 : goal.slice_bounds-checked_seam-end-2
-slice_bounds-checked_seam-end-2 c = sym (length-take-le c.held-a.result c.args.l.now (omega (arith, c.held-a.ensures, length-take c.args.l-len c.args.l.now)))
+slice_bounds-checked_seam-end-2 c = sym (length-take-le c.held-a.result c.args.l.now (omega (arith, c.held-a.ensures, length-take c.args.l_len c.args.l.now)))
 
 pub slice_bounds-checked_seam-end-3 : goal.slice_bounds-checked_seam-end-3
-slice_bounds-checked_seam-end-3 c = omega (arith, c.held-b.ensures, length-take c.args.r-len c.args.r.now)
+slice_bounds-checked_seam-end-3 c = omega (arith, c.held-b.ensures, length-take c.args.r_len c.args.r.now)
 
 pub slice_bounds-checked_seam-end-4 : goal.slice_bounds-checked_seam-end-4
-slice_bounds-checked_seam-end-4 c = sym (length-take-le c.held-b.result c.args.r.now (omega (arith, c.held-b.ensures, length-take c.args.r-len c.args.r.now)))
+slice_bounds-checked_seam-end-4 c = sym (length-take-le c.held-b.result c.args.r.now (omega (arith, c.held-b.ensures, length-take c.args.r_len c.args.r.now)))
 
 pub returns-in-Refused : goal.returns-in-Refused
 returns-in-Refused c =
     let a = c.args in
     leaves-refused _ _ _ _ _
-    (seam-refused a.l.now a.l-len a.r.now a.r-len _ _ c.held-a.ensures c.held-b.ensures _ c.checked_seam.ensures _ c.in-Refused.is)
+    (seam-refused a.l.now a.l_len a.r.now a.r_len _ _ c.held-a.ensures c.held-b.ensures _ c.checked_seam.ensures _ c.in-Refused.is)
     refl
 
 pub returns-in-Is : goal.returns-in-Is
 returns-in-Is c =
     let a = c.args in
     leaves-same _ _ _ _ _ _ _
-    (seam-mends a.l.now a.l-len a.r.now a.r-len _ _ c.held-a.ensures c.held-b.ensures _ c.checked_seam.ensures _ c.in-Is.is)
+    (seam-mends a.l.now a.l_len a.r.now a.r_len _ _ c.held-a.ensures c.held-b.ensures _ c.checked_seam.ensures _ c.in-Is.is)
     c.mend.ensures

@@ -14,12 +14,12 @@ pub returns-in-Refused : goal.returns-in-Refused
 returns-in-Refused c =
     let a = c.args in
     leaves-refused _ _ _ _ _
-    (split-refused a.region.now a.len a.byte-idx a.right.now _ c.held-n.ensures _ c.checked.ensures _ c.in-Refused.is)
+    (split-refused a.region.now a.len a.byte_idx a.right.now _ c.held-n.ensures _ c.checked.ensures _ c.in-Refused.is)
     refl
 
 pub returns-in-Is : goal.returns-in-Is
 returns-in-Is c =
     let a = c.args in
     leaves-same _ _ _ _ _ _ _
-    (split_parts a.region.now a.len a.byte-idx a.right.now _ c.held-n.ensures _ c.checked.ensures _ c.in-Is.is)
+    (split_parts a.region.now a.len a.byte_idx a.right.now _ c.held-n.ensures _ c.checked.ensures _ c.in-Is.is)
     c.part.ensures

@@ -31,5 +31,5 @@ loop-i-preserved c = (omega arith, omega arith, omega arith)
 pub returns : goal.returns
 returns c =
     let text = c.args.text.now in
-    let e : c.loop-i.i ≡ c.args.byte-idx = omega arith in
-    (omega (arith, line-drop text c.args.byte-idx, ap (λ (k : ℕ). breaks (drop k text)) e), omega arith)
+    let e : c.loop-i.i ≡ c.args.byte_idx = omega arith in
+    (omega (arith, line-drop text c.args.byte_idx, ap (λ (k : ℕ). breaks (drop k text)) e), omega arith)

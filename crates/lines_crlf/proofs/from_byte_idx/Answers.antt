@@ -6,4 +6,4 @@ use Rattle.lines_crlf.proofs.from_byte_idx.Goals as goal
 pub returns : goal.returns
 returns c =
     let text = c.args.text.now in
-    omega (arith, line-drop text c.args.byte-idx, break-end text c.args.byte-idx c.if-byte_idx-text.false)
+    omega (arith, line-drop text c.args.byte_idx, break-end text c.args.byte_idx c.if-byte_idx-text.false)

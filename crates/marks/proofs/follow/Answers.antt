@@ -15,5 +15,5 @@ pub returns : goal.returns
 returns c =
     let a = c.args in
     follow-wrote a.m.now a.s a.e a.new (omega arith) _ (omega arith) c.move_marks-moved.ensures.1 _
-    (c.wrapping_add_u32-edits.ensures ∙ ap (λ (v : ℕ). (v + 1) % 2 ^ 32) c.edit_number.ensures)
+    (c.wrapping_add_u32-edits.ensures.value ∙ ap (λ (v : ℕ). (v + 1) % 2 ^ 32) c.edit_number.ensures)
     _ _ c.set_edit_number.ensures

@@ -9,4 +9,4 @@ use Rattle.mend_step.proofs.slot_of.Goals as goal
 pub returns : goal.returns
 returns c =
     let a = c.args in
-    (c.index_of.ensures.0 ∙ sym (ap (λ (k : Kid). k.slot) (get_or-take a.t1.len a.t1.arr a.idx no_kid (omega arith))), c.index_of.ensures.1)
+    (c.index_of.ensures.0 ∙ sym (ap (λ (k : Kid). k.slot) (get_or-take a.list.len a.list.arr a.idx no_kid (omega arith))), c.index_of.ensures.1)

@@ -7,4 +7,4 @@ use Rattle.pool.specs.Slot.{no_kid}
 use Rattle.merge.proofs.slot_of.Goals as goal
 
 pub returns : goal.returns
-returns c = let a = c.args in c.index_of.ensures ∙ sym (ap (λ (k : Kid). k.slot) (get_or-take a.t1.len a.t1.arr a.idx no_kid (omega arith)))
+returns c = let a = c.args in c.index_of.ensures ∙ sym (ap (λ (k : Kid). k.slot) (get_or-take a.list.len a.list.arr a.idx no_kid (omega arith)))

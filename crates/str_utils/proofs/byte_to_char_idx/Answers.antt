@@ -11,5 +11,5 @@ returns-in_default c = text-passed _ _ _ c.checked-whole.ensures _ _ c.in_defaul
 pub returns : goal.returns
 returns c =
     let text = c.args.text.now in
-    text-is text _ (λ s. count_if is_start (take (floor_of s c.args.byte-idx) s)) (char-of-byte c.args.byte-idx) _ (text-valid text _ _ c.checked-whole.ensures _ c.in-Is.is)
+    text-is text _ (λ s. count_if is_start (take (floor_of s c.args.byte_idx) s)) (char-of-byte c.args.byte_idx) _ (text-valid text _ _ c.checked-whole.ensures _ c.in-Is.is)
     c.from_byte_idx.ensures

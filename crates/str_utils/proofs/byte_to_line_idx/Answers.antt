@@ -10,5 +10,5 @@ returns-in_default c = text-passed _ _ _ c.checked-whole.ensures _ _ c.in_defaul
 pub returns : goal.returns
 returns c =
     let text = c.args.text.now in
-    text-is text _ (λ s. line_at s c.args.byte-idx) (λ cs. line-byte cs c.args.byte-idx) _ (text-valid text _ _ c.checked-whole.ensures _ c.in-Is.is)
+    text-is text _ (λ s. line_at s c.args.byte_idx) (λ cs. line-byte cs c.args.byte_idx) _ (text-valid text _ _ c.checked-whole.ensures _ c.in-Is.is)
     c.from_byte_idx.ensures

@@ -17,5 +17,5 @@ slice_bounds-count_surrogates-end c = sym (length-take-le _ _ c.floor-i.ensures.
 pub returns : goal.returns
 returns c =
     let text = c.args.text.now in
-    text-is text _ (λ s. count_if is_wide (take (floor_of s c.args.byte-idx) s)) (pairs-of-byte c.args.byte-idx) _ (text-valid text _ _ c.checked-whole.ensures _ c.in-Is.is)
+    text-is text _ (λ s. count_if is_wide (take (floor_of s c.args.byte_idx) s)) (pairs-of-byte c.args.byte_idx) _ (text-valid text _ _ c.checked-whole.ensures _ c.in-Is.is)
     (c.count_surrogates.ensures ∙ ap (λ (n : ℕ). count_if is_wide (take n text)) c.floor-i.ensures.0)

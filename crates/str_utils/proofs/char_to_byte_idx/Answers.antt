@@ -10,5 +10,5 @@ returns-in_default c = text-passed _ _ _ c.checked-whole.ensures _ _ c.in_defaul
 pub returns : goal.returns
 returns c =
     let text = c.args.text.now in
-    text-is text _ (λ s. place_of start_chars s c.args.char-idx) (λ cs. byte-of-char cs c.args.char-idx) _ (text-valid text _ _ c.checked-whole.ensures _ c.in-Is.is)
+    text-is text _ (λ s. place_of start_chars s c.args.char_idx) (λ cs. byte-of-char cs c.args.char_idx) _ (text-valid text _ _ c.checked-whole.ensures _ c.in-Is.is)
     c.to_byte_idx.ensures

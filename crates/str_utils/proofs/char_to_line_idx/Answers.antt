@@ -11,5 +11,5 @@ returns-in_default c = text-passed _ _ _ c.checked-whole.ensures _ _ c.in_defaul
 pub returns : goal.returns
 returns c =
     let text = c.args.text.now in
-    text-is text _ (λ s. line_at s (place_of start_chars s c.args.char-idx)) (line-of-char c.args.char-idx) _ (text-valid text _ _ c.checked-whole.ensures _ c.in-Is.is)
+    text-is text _ (λ s. line_at s (place_of start_chars s c.args.char_idx)) (line-of-char c.args.char_idx) _ (text-valid text _ _ c.checked-whole.ensures _ c.in-Is.is)
     (c.from_byte_idx.ensures ∙ ap (line_at text) c.to_byte_idx.ensures)

@@ -10,5 +10,5 @@ returns-in_default c = text-passed _ _ _ c.checked-whole.ensures _ _ c.in_defaul
 pub returns : goal.returns
 returns c =
     let text = c.args.text.now in
-    text-is text _ (λ s. line_start s c.args.line-idx) (λ cs. start-encode cs c.args.line-idx) _ (text-valid text _ _ c.checked-whole.ensures _ c.in-Is.is)
+    text-is text _ (λ s. line_start s c.args.line_idx) (λ cs. start-encode cs c.args.line_idx) _ (text-valid text _ _ c.checked-whole.ensures _ c.in-Is.is)
     c.to_byte_idx.ensures

@@ -13,5 +13,5 @@ returns-in_default c = text-passed _ _ _ c.checked-whole.ensures _ _ c.in_defaul
 pub returns : goal.returns
 returns c =
     let text = c.args.text.now in
-    text-is text _ (λ s. count_if is_start (take (floor_of s (place_of start_units s c.args.utf16-idx)) s)) (char-of-unit c.args.utf16-idx) _ (text-valid text _ _ c.checked-whole.ensures _ c.in-Is.is)
+    text-is text _ (λ s. count_if is_start (take (floor_of s (place_of start_units s c.args.utf16_idx)) s)) (char-of-unit c.args.utf16_idx) _ (text-valid text _ _ c.checked-whole.ensures _ c.in-Is.is)
     (c.from_byte_idx.ensures ∙ ap (λ (n : ℕ). count_if is_start (take (floor_of text n) text)) c.to_byte_idx.ensures)

@@ -50,7 +50,7 @@ pub returns-in_default : goal.returns-in_default
 unfolding row_of
 returns-in_default c =
     let k = c.args.k in
-    let r = c.in_default.rest in
+    let r = c.in_default.in_default-own.rest in
     let h : k < 7 = below k 7 (below k 8 (below k 9 c.requires r.1) r.0.1) r.0.0.1 in
     let l : k < 4 = below k 4 (below k 5 (below k 6 h r.0.0.0.1) r.0.0.0.0.1) r.0.0.0.0.0.1 in
     let m : k < 1 = below k 1 (below k 2 (below k 3 l r.0.0.0.0.0.0.1) r.0.0.0.0.0.0.0.1) r.0.0.0.0.0.0.0.0.1 in

@@ -14,7 +14,7 @@ pub bounds-text-i : goal.bounds-text-i
 bounds-text-i c = omega arith
 
 pub step-now-requires : goal.step-now-requires
-step-now-requires c = c.requires.0
+step-now-requires c = c.requires.t
 
 pub overflow_add-i : goal.overflow_add-i
 overflow_add-i c = omega arith

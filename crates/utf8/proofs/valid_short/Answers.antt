@@ -9,7 +9,7 @@ use Rattle.utf8.proofs.valid_short.Goals as goal
 
 pub run-d-requires : goal.run-d-requires
 unfolding classed
-run-d-requires c = (tt, (omega arith, omega arith))
+run-d-requires c = record { t = tt; a_le_e = (omega arith, omega arith) }
 
 pub returns : goal.returns
 unfolding valid_utf8

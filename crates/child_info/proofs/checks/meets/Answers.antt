@@ -14,7 +14,7 @@ use Rattle.child_info.proofs.Turns.{turn-hit, turn_on, turn_end, among-law}
 use Rattle.child_info.proofs.checks.meets.Goals as goal
 
 pub loop-i-init : goal.loop-i-init
-loop-i-init c = (omega arith, simp length-map at c.type_inv.0.1.1.1.0.1.0.1, refl)
+loop-i-init c = (omega arith, simp length-map at c.well_formed.0.1.1.1.0.1.0.1, refl)
 
 pub offset_bounds-list-i : goal.offset_bounds-list-i
 offset_bounds-list-i c = omega arith
@@ -29,9 +29,9 @@ pub returns-then-place-slot : goal.returns-then-place-slot
 returns-then-place-slot c =
     let l = c.loop-i in
     let a = c.args in
-    let w = kids-length a.t1 (omega arith) l.invariant.1 in
-    let g = ap (λ (k : Kid). k.slot) (get_or-take a.t1.len a.t1.arr l.i no_kid (omega arith)) in
-    turn-hit (λ ks. among a.slot (slots_of ks)) _ (among-law a.slot) (kids a.t1) l.i (omega arith) (eq-eqb _ _ (g ∙ sym c.place.ensures ∙ c.if-place-slot.true)) ∙ l.invariant.2
+    let w = kids-length a.list (omega arith) l.invariant.1 in
+    let g = ap (λ (k : Kid). k.slot) (get_or-take a.list.len a.list.arr l.i no_kid (omega arith)) in
+    turn-hit (λ ks. among a.slot (slots_of ks)) _ (among-law a.slot) (kids a.list) l.i (omega arith) (eq-eqb _ _ (g ∙ sym c.place.ensures ∙ c.if-place-slot.true)) ∙ l.invariant.2
 
 pub overflow_add-i : goal.overflow_add-i
 overflow_add-i c = omega arith
@@ -43,13 +43,13 @@ pub loop-i-preserved : goal.loop-i-preserved
 loop-i-preserved c =
     let l = c.loop-i in
     let a = c.args in
-    let w = kids-length a.t1 (omega arith) l.invariant.1 in
-    let g = ap (λ (k : Kid). k.slot) (get_or-take a.t1.len a.t1.arr l.i no_kid (omega arith)) in
-    (omega arith, l.invariant.1, turn_on (λ ks. among a.slot (slots_of ks)) _ (among-law a.slot) (kids a.t1) l.i (omega arith) (ne_eqb _ _ (λ e. c.if-place-slot.false (c.place.ensures ∙ sym g ∙ e))) ∙ l.invariant.2)
+    let w = kids-length a.list (omega arith) l.invariant.1 in
+    let g = ap (λ (k : Kid). k.slot) (get_or-take a.list.len a.list.arr l.i no_kid (omega arith)) in
+    (omega arith, l.invariant.1, turn_on (λ ks. among a.slot (slots_of ks)) _ (among-law a.slot) (kids a.list) l.i (omega arith) (ne_eqb _ _ (λ e. c.if-place-slot.false (c.place.ensures ∙ sym g ∙ e))) ∙ l.invariant.2)
 
 pub returns : goal.returns
 returns c =
     let l = c.loop-i in
     let a = c.args in
-    let w = kids-length a.t1 (omega arith) l.invariant.1 in
-    turn_end (λ ks. among a.slot (slots_of ks)) _ (among-law a.slot) (kids a.t1) l.i (omega arith) ∙ l.invariant.2
+    let w = kids-length a.list (omega arith) l.invariant.1 in
+    turn_end (λ ks. among a.slot (slots_of ks)) _ (among-law a.slot) (kids a.list) l.i (omega arith) ∙ l.invariant.2

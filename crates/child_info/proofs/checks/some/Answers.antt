@@ -12,7 +12,7 @@ use Rattle.child_info.proofs.Turns.{turn-hit, turn_on, turn_end, some-law}
 use Rattle.child_info.proofs.checks.some.Goals as goal
 
 pub loop-i-init : goal.loop-i-init
-loop-i-init c = (omega arith, simp length-map at c.type_inv.1.0.1.1.1.0.1.0.1, refl)
+loop-i-init c = (omega arith, simp length-map at c.well_formed.1.0.1.1.1.0.1.0.1, refl)
 
 pub offset_bounds-list-i : goal.offset_bounds-list-i
 offset_bounds-list-i c = omega arith
@@ -27,10 +27,10 @@ pub returns-then-asks : goal.returns-then-asks
 returns-then-asks c =
     let l = c.loop-i in
     let a = c.args in
-    let w = kids-length a.t2 (omega arith) l.invariant.1 in
-    let g = get_or-take a.t2.len a.t2.arr l.i no_kid (omega arith) in
+    let w = kids-length a.list (omega arith) l.invariant.1 in
+    let g = get_or-take a.list.len a.list.arr l.i no_kid (omega arith) in
     let e = ap (asks_of a.q a.m.now) g ∙ sym c.asks.ensures ∙ c.if-asks.true in
-    turn-hit (some_of a.q a.m.now) _ (some-law a.q a.m.now) (kids a.t2) l.i (omega arith) e ∙ l.invariant.2
+    turn-hit (some_of a.q a.m.now) _ (some-law a.q a.m.now) (kids a.list) l.i (omega arith) e ∙ l.invariant.2
 
 pub overflow_add-i : goal.overflow_add-i
 overflow_add-i c = omega arith
@@ -42,14 +42,14 @@ pub loop-i-preserved : goal.loop-i-preserved
 loop-i-preserved c =
     let l = c.loop-i in
     let a = c.args in
-    let w = kids-length a.t2 (omega arith) l.invariant.1 in
-    let g = get_or-take a.t2.len a.t2.arr l.i no_kid (omega arith) in
+    let w = kids-length a.list (omega arith) l.invariant.1 in
+    let g = get_or-take a.list.len a.list.arr l.i no_kid (omega arith) in
     let e = ap (asks_of a.q a.m.now) g ∙ sym c.asks.ensures ∙ c.if-asks.false in
-    (omega arith, l.invariant.1, turn_on (some_of a.q a.m.now) _ (some-law a.q a.m.now) (kids a.t2) l.i (omega arith) e ∙ l.invariant.2)
+    (omega arith, l.invariant.1, turn_on (some_of a.q a.m.now) _ (some-law a.q a.m.now) (kids a.list) l.i (omega arith) e ∙ l.invariant.2)
 
 pub returns : goal.returns
 returns c =
     let l = c.loop-i in
     let a = c.args in
-    let w = kids-length a.t2 (omega arith) l.invariant.1 in
-    turn_end (some_of a.q a.m.now) _ (some-law a.q a.m.now) (kids a.t2) l.i (omega arith) ∙ l.invariant.2
+    let w = kids-length a.list (omega arith) l.invariant.1 in
+    turn_end (some_of a.q a.m.now) _ (some-law a.q a.m.now) (kids a.list) l.i (omega arith) ∙ l.invariant.2

@@ -8,7 +8,7 @@ pub pack-requires : goal.pack-requires
 pack-requires c =
     let a = c.args in
     let p = c.requires in
-    pair-leaves a.m.now a.t2 a.i p.0 p.1 p.2 p.3 p.4
+    pair-leaves a.m.now a.list a.i p.0 p.1 p.2 p.3 p.4
 
 pub rest-requires : goal.rest-requires
 rest-requires c = (c.requires.2, c.requires.3)
@@ -20,4 +20,4 @@ pub returns-in-Is : goal.returns-in-Is
 returns-in-Is c =
     let a = c.args in
     let p = c.requires in
-    packed-at a.m.now a.t2 a.i p.0 p.1 p.2 p.3 p.4 c.pack.result _ c.pack.ensures _ c.in-Is.is c.rest.result c.rest.ensures
+    packed-at a.m.now a.list a.i p.0 p.1 p.2 p.3 p.4 c.pack.result _ c.pack.ensures _ c.in-Is.is c.rest.result c.rest.ensures

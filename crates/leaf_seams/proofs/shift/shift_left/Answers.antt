@@ -15,7 +15,7 @@ pub returns-in-Refused : goal.returns-in-Refused
 returns-in-Refused c =
     let a = c.args in
     let y = take (a.len - a.split) (drop a.split a.left.now) in
-    number-never _ _ _ (replace-told a.right.now a.right-len 0 0 y (omega arith) (omega arith) (omega arith) (omega arith) c.replace.ensures) c.in-Refused.is
+    number-never _ _ _ (replace-told a.right.now a.right_len 0 0 y (omega arith) (omega arith) (omega arith) (omega arith) c.replace.ensures) c.in-Refused.is
 
 pub returns-in-Is : goal.returns-in-Is
 returns-in-Is c =
@@ -23,8 +23,8 @@ returns-in-Is c =
     let l = a.left.now in
     let r = a.right.now in
     let y = take (a.len - a.split) (drop a.split l) in
-    let told = replace-told r a.right-len 0 0 y (omega arith) (omega arith) (omega arith) (omega arith) c.replace.ensures in
-    let n : c.in-Is.rest ≡ a.len + a.right-len - a.split = omega (arith, value-is _ _ told _ c.in-Is.is, length-take-le (a.len - a.split) (drop a.split l) (omega (arith, length-drop a.split l))) in (
+    let told = replace-told r a.right_len 0 0 y (omega arith) (omega arith) (omega arith) (omega arith) c.replace.ensures in
+    let n : c.in-Is.rest ≡ a.len + a.right_len - a.split = omega (arith, value-is _ _ told _ c.in-Is.is, length-take-le (a.len - a.split) (drop a.split l) (omega (arith, length-drop a.split l))) in (
       both-are _ _ _ _ refl n,
-      replace-laid r a.right-len 0 0 y (omega arith) (omega arith) (omega arith) (omega arith) c.replace.ensures ∙ ap (laid r) (sym (below_right l r a.len a.right-len a.split (omega arith) (omega arith))),
+      replace-laid r a.right_len 0 0 y (omega arith) (omega arith) (omega arith) (omega arith) c.replace.ensures ∙ ap (laid r) (sym (below_right l r a.len a.right_len a.split (omega arith) (omega arith))),
     )

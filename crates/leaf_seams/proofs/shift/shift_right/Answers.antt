@@ -30,7 +30,7 @@ returns-in-Refused c =
 pub returns-in-Refused-replace : goal.returns-in-Refused-replace
 returns-in-Refused-replace c =
     let a = c.args in
-    number-never _ _ _ (replace-told a.right.now a.right-len 0 (a.split - a.len) [] (omega arith) (omega arith) (omega arith) (omega arith) c.replace-in-Is.ensures) c.in-Refused-replace.is
+    number-never _ _ _ (replace-told a.right.now a.right_len 0 (a.split - a.len) [] (omega arith) (omega arith) (omega arith) (omega arith) c.replace-in-Is.ensures) c.in-Refused-replace.is
 
 pub returns-in-Is-replace : goal.returns-in-Is-replace
 returns-in-Is-replace c =
@@ -40,13 +40,13 @@ returns-in-Is-replace c =
     let y = take (a.split - a.len) r in
     let long = length-take-le (a.split - a.len) r (omega arith) in
     let left = replace-told l a.len a.len a.len y (omega arith) (omega arith) (omega arith) (omega arith) c.replace.ensures in
-    let right = replace-told r a.right-len 0 (a.split - a.len) [] (omega arith) (omega arith) (omega arith) (omega arith) c.replace-in-Is.ensures in
+    let right = replace-told r a.right_len 0 (a.split - a.len) [] (omega arith) (omega arith) (omega arith) (omega arith) c.replace-in-Is.ensures in
     let i : c.in-Is.more ≡ a.split = omega (arith, value-is _ _ left _ c.in-Is.is) in
-    let j : c.in-Is-replace.rest ≡ a.len + a.right-len - a.split = omega (arith, value-is _ _ right _ c.in-Is-replace.is) in (
+    let j : c.in-Is-replace.rest ≡ a.len + a.right_len - a.split = omega (arith, value-is _ _ right _ c.in-Is-replace.is) in (
       both-are _ _ _ _ i j,
       replace-laid l a.len a.len a.len y (omega arith) (omega arith) (omega arith) (omega arith) c.replace.ensures
           ∙ laid-put l a.len y (omega arith) ∙ laid-behind l a.len y (omega arith)
-          ∙ ap (laid l) (sym (above-left l r a.len a.right-len a.split (omega arith) (omega arith) (omega arith))),
-      replace-laid r a.right-len 0 (a.split - a.len) [] (omega arith) (omega arith) (omega arith) (omega arith) c.replace-in-Is.ensures
-          ∙ ap (laid r) (sym (above-right l r a.len a.right-len a.split (omega arith) (omega arith))),
+          ∙ ap (laid l) (sym (above-left l r a.len a.right_len a.split (omega arith) (omega arith) (omega arith))),
+      replace-laid r a.right_len 0 (a.split - a.len) [] (omega arith) (omega arith) (omega arith) (omega arith) c.replace-in-Is.ensures
+          ∙ ap (laid r) (sym (above-right l r a.len a.right_len a.split (omega arith) (omega arith))),
     )

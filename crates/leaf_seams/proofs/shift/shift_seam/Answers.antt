@@ -10,6 +10,6 @@ returns-then-split-len c =
     let a = c.args in
     let l = a.left.now in (
       c.shift_left.ensures.0,
-      sym (ap (laid l) (below_left l a.right.now a.len a.right-len a.split (omega arith) (omega arith)) ∙ laid-own l a.split (omega arith)),
+      sym (ap (laid l) (below_left l a.right.now a.len a.right_len a.split (omega arith) (omega arith)) ∙ laid-own l a.split (omega arith)),
       c.shift_left.ensures.1,
     )

@@ -16,7 +16,7 @@ use Rattle.merge.proofs.JoinedLists.{push-holds}
 use Rattle.merge.proofs.join.append.Goals as goal
 
 pub loop-i-init : goal.loop-i-init
-loop-i-init c = (omega arith, simp length-map at c.type_inv.1.0.1.1.1.0.1.0.1, append-start c.args.left c.args.t2 0 c.requires.1)
+loop-i-init c = (omega arith, simp length-map at c.well_formed.1.0.1.1.1.0.1.0.1, append-start c.args.left c.args.right 0 c.requires.1)
 
 pub offset_bounds-right-i : goal.offset_bounds-right-i
 offset_bounds-right-i c = omega arith
@@ -39,14 +39,14 @@ pub loop-i-preserved : goal.loop-i-preserved
 loop-i-preserved c =
     let l = c.loop-i in
     let a = c.args in
-    let w = kids-length a.t2 (omega arith) l.invariant.1 in
-    let g = sym (get_or-take a.t2.len a.t2.arr l.i no_kid (omega arith)) in
+    let w = kids-length a.right (omega arith) l.invariant.1 in
+    let g = sym (get_or-take a.right.len a.right.arr l.i no_kid (omega arith)) in
     let p = push-holds l.list _ c.push-longer.result (omega (arith, l.invariant.2.len)) l.invariant.2.clean c.push-longer.ensures in
-    (omega arith, l.invariant.1, append-turn (kids a.left) (kids a.t2) 0 l.i a.left.len l.list c.push-longer.result.list _ (omega arith) (omega arith) g l.invariant.2 p)
+    (omega arith, l.invariant.1, append-turn (kids a.left) (kids a.right) 0 l.i a.left.len l.list c.push-longer.result.list _ (omega arith) (omega arith) g l.invariant.2 p)
 
 pub returns : goal.returns
 returns c =
     let l = c.loop-i in
     let a = c.args in
-    let e : l.i ≡ a.t2.len = omega arith in
-    record { answered = refl; list = l.invariant.2.is ∙ ap (λ (n : ℕ). list_of (kids a.left ++ take n (kids a.t2))) e ∙ ap (λ (ks : List Kid). list_of (kids a.left ++ ks)) (whole a.t2) }
+    let e : l.i ≡ a.right.len = omega arith in
+    record { answered = refl; list = l.invariant.2.is ∙ ap (λ (n : ℕ). list_of (kids a.left ++ take n (kids a.right))) e ∙ ap (λ (ks : List Kid). list_of (kids a.left ++ ks)) (whole a.right) }

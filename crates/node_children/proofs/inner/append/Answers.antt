@@ -12,7 +12,7 @@ use Rattle.node_children.proofs.inner.append.Goals as goal
 
 pub loop-i-init : goal.loop-i-init
 loop-i-init c =
-    (omega arith, omega arith, simp length-map at c.type_inv.1.0.1.1.1.0.1.0.1, append-start c.args.into c.args.t2 c.args.start c.requires.4)
+    (omega arith, omega arith, simp length-map at c.well_formed.1.0.1.1.1.0.1.0.1, append-start c.args.into c.args.from c.args.start c.requires.4)
 
 pub offset_bounds-from-i : goal.offset_bounds-from-i
 offset_bounds-from-i c = omega arith
@@ -33,12 +33,12 @@ pub loop-i-preserved : goal.loop-i-preserved
 loop-i-preserved c =
     let l = c.loop-i in
     let a = c.args in
-    let w = kids-length a.t2 (omega arith) l.invariant.2 in
-    let g = sym (get_or-take a.t2.len a.t2.arr l.i no_kid (omega arith)) in (
+    let w = kids-length a.from (omega arith) l.invariant.2 in
+    let g = sym (get_or-take a.from.len a.from.arr l.i no_kid (omega arith)) in (
       omega arith,
       omega arith,
       l.invariant.2,
-      append-turn (kids a.into) (kids a.t2) a.start l.i a.into.len l.list c.put-list.result _ (omega arith) (omega arith) g l.invariant.3 c.put-list.ensures,
+      append-turn (kids a.into) (kids a.from) a.start l.i a.into.len l.list c.put-list.result _ (omega arith) (omega arith) g l.invariant.3 c.put-list.ensures,
     )
 
 pub returns : goal.returns
@@ -46,4 +46,4 @@ returns c =
     let l = c.loop-i in
     let a = c.args in
     let e : l.i ≡ a.end = omega arith in
-    holds_same l.list _ _ _ _ (omega arith) (ap (λ (n : ℕ). kids a.into ++ drop a.start (take n (kids a.t2))) e) l.invariant.3
+    holds_same l.list _ _ _ _ (omega arith) (ap (λ (n : ℕ). kids a.into ++ drop a.start (take n (kids a.from))) e) l.invariant.3

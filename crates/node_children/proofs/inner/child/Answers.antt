@@ -6,4 +6,4 @@ use Rattle.pool.specs.Slot.{no_kid}
 use Rattle.node_children.proofs.inner.child.Goals as goal
 
 pub returns : goal.returns
-returns c = sym (get_or-take c.args.t1.len c.args.t1.arr c.args.at no_kid (omega arith))
+returns c = sym (get_or-take c.args.list.len c.args.list.arr c.args.at no_kid (omega arith))
