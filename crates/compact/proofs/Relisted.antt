@@ -37,7 +37,7 @@ use Rattle.child_info.specs.Renewed.{slot_at, renewed}
 use Rattle.child_info.specs.Calls.{updated}
 use Rattle.compact.specs.Pack.{renewed_from}
 use Rattle.nodes.proofs.Heads.{inside, list-says, list-is}
-use Rattle.nodes.proofs.Put.{list-size, list-len, list_put, list-entries, list-others}
+use Rattle.nodes.proofs.Put.{list-size, list-len, list_put_lem, list-entries, list-others}
 use Rattle.child_info.proofs.TextRead.{text-size}
 use Rattle.child_info.proofs.Found.{text-counted, renews, updated-renews}
 use Rattle.compact.proofs.Packed.{leaf-stays}
@@ -138,7 +138,7 @@ module _ (m : List ℕ) (p : ℕ) (c : NodeChildren) (pre : Listable m p c) wher
         high = omega arith;
         few = k;
         size = refl;
-        list = list_put m p c h k w;
+        list = list_put_lem m p c h k w;
         len = list-len m p c h k w;
         slots = λ j g. ap (λ (es : List Kid). (get_or es j no_kid).slot) (list-entries m p c h k w fits);
         small = λ j g. (fits.each j g).slot;

@@ -15,7 +15,7 @@ use Rattle.node_children.specs.Kids.{list_of}
 use Rattle.node_children.proofs.Lists.{kids-of}
 use Rattle.nodes.specs.Node.{is_list, children_of, list_put, Fitting}
 use Rattle.nodes.proofs.Heads.{list-says, list-is}
-use Rattle.nodes.proofs.Put.{list-size, list_put, list-children, list-others, list-front}
+use Rattle.nodes.proofs.Put.{list-size, list_put_lem, list-children, list-others, list-front}
 use Rattle.nodes.proofs.Fitted.{list-fits}
 use Rattle.tree.specs.Tree.{join_over, sum_over, bytes_below, hit, uses}
 use Rattle.tree.specs.Kids.{below}
@@ -48,7 +48,7 @@ list-laid m p ks inside most fits =
     let fit : Fitting (list_of ks).arr = list-fits ks most fits in
     record {
       long = list-size m p (list_of ks) inside few fit.sixteen;
-      list = list_put m p (list_of ks) inside few fit.sixteen;
+      list = list_put_lem m p (list_of ks) inside few fit.sixteen;
       children = list-children m p (list_of ks) inside few fit.sixteen fit ∙ kids-of ks;
       others = list-others m p (list_of ks) inside few fit.sixteen;
       head = list-front m p (list_of ks) inside few fit.sixteen;

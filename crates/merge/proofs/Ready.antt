@@ -24,7 +24,7 @@ use Rattle.node_children.proofs.Lists.{kids-of}
 use Rattle.nodes.specs.Node.{is_list, text_of, children_of, counts_of, too_wide, total_of, lost, ill, leaf_put, list_put}
 use Rattle.nodes.specs.Calls.{counted}
 use Rattle.nodes.proofs.Heads.{leaf-says, list-says, list-no-leaf}
-use Rattle.nodes.proofs.Put.{leaf-size, leaf-put, leaf-text, leaf-others, list-size, list_put, list-children, list-others}
+use Rattle.nodes.proofs.Put.{leaf-size, leaf-put, leaf-text, leaf-others, list-size, list_put_lem, list-children, list-others}
 use Rattle.nodes.proofs.Fitted.{list-fits}
 use Rattle.nodes.proofs.Accepted.{counted_is}
 use Rattle.child_info.specs.Leaves.{TwoLeaves, Alike, Alike.leaves, Alike.lists}
@@ -51,7 +51,7 @@ unfolding lost ill list_of
 list_counted m s ks h n f w =
     let fit = list-fits ks n f in
     let l = list_put m s (list_of ks) in
-    let is = list_put m s (list_of ks) h n fit.sixteen in
+    let is = list_put_lem m s (list_of ks) h n fit.sixteen in
     let no = list-no-leaf l s is in
     let cs : children_of l s ≡ ks = list-children m s (list_of ks) h n fit.sixteen fit ∙ kids-of ks in
     counted_is l s (rw (is, no, cs, w)) (rw no)

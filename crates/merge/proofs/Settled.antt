@@ -29,7 +29,7 @@ use Rattle.node_children.proofs.Rules.{removed-done}
 use Rattle.nodes.specs.Node.{is_list, children_of, counts_of, list_put, Fitting}
 use Rattle.nodes.specs.Calls.{counted, stored, Fitted}
 use Rattle.nodes.proofs.Heads.{not-outside, list-says, list-is}
-use Rattle.nodes.proofs.Put.{list-size, list-len, list_put, list-children, list-others, same}
+use Rattle.nodes.proofs.Put.{list-size, list-len, list_put_lem, list-children, list-others, same}
 use Rattle.nodes.proofs.Accepted.{counted_is, counted-only}
 use Rattle.child_info.specs.Kin.{slot_in}
 use Rattle.child_info.specs.Renewed.{slot_at, renewed}
@@ -156,7 +156,7 @@ module _ (m : List ℕ) (p i j : ℕ) (list : NodeChildren) (e : is_list m p ≡
           let six = put.2.sixteen in
           let mem = put.1 in
           let a = slot_in ks i in
-          let isl : is_list l p ≡ true = ap (λ (y : List ℕ). is_list y p) mem ∙ list_put m p c s.0 small six in
+          let isl : is_list l p ≡ true = ap (λ (y : List ℕ). is_list y p) mem ∙ list_put_lem m p c s.0 small six in
           let len : len_of l p ≡ list.len - 1 = ap (λ (y : List ℕ). len_of y p) mem ∙ list-len m p c s.0 small six ∙ left-len ∙ less-length in
           let sl : slot_at l p i ≡ a =
           sym (slot-at l p i (omega (arith, len)))

@@ -38,7 +38,7 @@ use Rattle.nodes.specs.Node.{is_leaf, is_list, text_of, children_of, counts_of, 
 use Rattle.nodes.specs.Calls.{loaded, stored, list_counted, counted, leaf_edited, leaf_halved, LeafWrote, LeavesWrote}
 use Rattle.nodes.proofs.Heads.{inside, not-outside, leaf-says, not_so}
 use Rattle.nodes.proofs.Copied.{edit-is, edit-none, halve-is, halve-same, halve-outside, halve-none}
-use Rattle.nodes.proofs.Put.{leaf-size, leaf-put, leaf-text, leaf-others, list_put, list-children, same}
+use Rattle.nodes.proofs.Put.{leaf-size, leaf-put, leaf-text, leaf-others, list_put_lem, list-children, same}
 use Rattle.nodes.proofs.Rules.{few-counted, loaded-is}
 
 -- ── lists and counts ──
@@ -100,7 +100,7 @@ module _ (m : List ℕ) (s : ℕ) (c : NodeChildren) where
       let h = store-accepted after w in
       let l = list_put m s c in
       ap (λ (x : List ℕ). loaded x s) h.2
-      ∙ loaded-is l s (list_put m s c h.0 h.1 f.sixteen)
+      ∙ loaded-is l s (list_put_lem m s c h.0 h.1 f.sixteen)
       ∙ ap (λ (ks : List Kid). value (list_of ks)) (list-children m s c h.0 h.1 f.sixteen f)
 
 -- ── an edited leaf ──

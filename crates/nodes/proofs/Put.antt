@@ -105,8 +105,8 @@ module _ (m : List ℕ) (s : ℕ) (c : NodeChildren) (h : slot_start s + 640 ≤
   list-len = list-head.1 ∙ head-len m s 2 c.len 0 h (omega arith)
 
   -- THEOREM: the slot holds a list with these children
-  pub list_put : is_list (list_put m s c) s ≡ true
-  list_put = list-is (list_put m s c) s (omega (arith, list-size)) (list-head.0 ∙ head-kind m s 2 c.len 0 h) (omega (arith, list-len))
+  pub list_put_lem : is_list (list_put m s c) s ≡ true
+  list_put_lem = list-is (list_put m s c) s (omega (arith, list-size)) (list-head.0 ∙ head-kind m s 2 c.len 0 h) (omega (arith, list-len))
 
   pub list-entries : Fitting c.arr → entries (region_of (list_put m s c) s) ≡ c.arr
   list-entries f =

@@ -64,8 +64,8 @@ module _ (s : TextSum) where
       or-none _ _ (le-ltb 4294967295 s.bytes a)
       (or-none _ _ (le-ltb 4294967295 s.chars b) (or-none _ _ (le-ltb 4294967295 s.utf16_surrogates c) (le-ltb 4294967295 s.line_breaks d)))
 
-  pub too_wide : too_wide s ≡ true → refused 2 ≡ ruled ((2, too_wide s) ∷ []) (narrowed s)
-  too_wide e = sym (one-applies 2 (too_wide s) (narrowed s) e)
+  pub too_wide_lem : too_wide s ≡ true → refused 2 ≡ ruled ((2, too_wide s) ∷ []) (narrowed s)
+  too_wide_lem e = sym (one-applies 2 (too_wide s) (narrowed s) e)
 
   pub not_wide : too_wide s ≡ false → value (narrowed s) ≡ ruled ((2, too_wide s) ∷ []) (narrowed s)
   not_wide e = sym (one-passed 2 (too_wide s) (narrowed s) e)

@@ -43,12 +43,12 @@ counted Chars cs = refl
 counted Units cs = sym (units-pairs cs)
 counted Lines cs = refl
 
-stops_at : (c : Count) (i : ℕ) (cs : List ℕ) → stops_at (by_of c) i (sum_of cs) ≡ stops (measure c) i (count_of (measure c) cs)
+stops_at_lem : (c : Count) (i : ℕ) (cs : List ℕ) → stops_at (by_of c) i (sum_of cs) ≡ stops (measure c) i (count_of (measure c) cs)
 unfolding count_of stops
-stops_at Bytes i cs = refl
-stops_at Chars i cs = refl
-stops_at Units i cs = ap (stops (measure Units) i) (sym (units-pairs cs))
-stops_at Lines i cs = refl
+stops_at_lem Bytes i cs = refl
+stops_at_lem Chars i cs = refl
+stops_at_lem Units i cs = ap (stops (measure Units) i) (sym (units-pairs cs))
+stops_at_lem Lines i cs = refl
 
 most-of : (c : Count) (cs : List ℕ) → most_of (by_of c) (sum_of cs) ≡ most_by (measure c) cs
 unfolding most_by
@@ -101,12 +101,12 @@ module _ (m : List ℕ) (h s : ℕ) (from : Count) (i leaf : ℕ) (left : TextSu
   empty a e = ap decode e
 
   not-before : (decode before ≡ [] → ⊥) → stops (measure from) i (count_of (measure from) (decode before)) ≡ false
-  not-before n = sym (stops_at from i (decode before)) ∙ ap (stops_at (by_of from) i) (sym p.counts) ∙ p.passed (λ e. n (empty before e))
+  not-before n = sym (stops_at_lem from i (decode before)) ∙ ap (stops_at (by_of from) i) (sym p.counts) ∙ p.passed (λ e. n (empty before e))
 
   by-the-end : (decode after ≡ [] → ⊥) → stops (measure from) i (count_of (measure from) (decode before ++ decode text)) ≡ true
   by-the-end n =
       ap (λ (l : List ℕ). stops (measure from) i (count_of (measure from) l)) (sym (valid-append before text p.valid-before p.valid-leaf).1)
-      ∙ sym (stops_at from i (decode (before ++ text))) ∙ p.stopped (λ e. n (empty after e))
+      ∙ sym (stops_at_lem from i (decode (before ++ text))) ∙ p.stopped (λ e. n (empty after e))
 
   -- THEOREM: the count of the whole text is that on the left and that in the leaf
   pub whole-turned : (to : Count) → i ≤ most_by (measure from) (decode (bytes_below m h s))

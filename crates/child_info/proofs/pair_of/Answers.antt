@@ -13,6 +13,6 @@ pub returns : goal.returns
 returns c =
     let a = c.args in
     let t = a.list in
-    let w = kids-length t (omega arith) (simp length-map at c.well_formed.0.1.1.1.0.1.0.1) in
+    let w = kids-length t (omega arith) (c.well_formed.0.1.1.1.0.1.0.1) in
     pair_made c.two.result (kids t) _ _ a.idx1 a.idx2 c.two.ensures (sym (get_or-take t.len t.arr a.idx1 no_kid (omega arith)))
     (sym (get_or-take t.len t.arr a.idx2 no_kid (omega arith))) (omega arith) (omega arith)

@@ -16,7 +16,7 @@ pub overflow_sub-last : goal.overflow_sub-last
 overflow_sub-last c = omega arith
 
 pub loop-i-init : goal.loop-i-init
-loop-i-init c = (omega arith, simp length-map at c.well_formed.0.1.1.1.0.1.0.1, c.requires.2, refl)
+loop-i-init c = (omega arith, c.well_formed.0.1.1.1.0.1.0.1, c.requires.2, refl)
 
 pub offset_bounds-list-i : goal.offset_bounds-list-i
 offset_bounds-list-i c = omega arith

@@ -19,7 +19,7 @@ pub new-acc-requires : goal.new-acc-requires
 new-acc-requires c = tt
 
 pub loop-i-init : goal.loop-i-init
-loop-i-init c = (omega arith, simp length-map at c.well_formed.0.1.1.1.0.1.0.1, within_none c.new-acc.result c.new-acc.ensures, ap (λ (s : TextSum). sum_from s (kids c.args.list)) c.new-acc.ensures)
+loop-i-init c = (omega arith, c.well_formed.0.1.1.1.0.1.0.1, within_none c.new-acc.result c.new-acc.ensures, ap (λ (s : TextSum). sum_from s (kids c.args.list)) c.new-acc.ensures)
 
 pub offset_bounds-list-i : goal.offset_bounds-list-i
 offset_bounds-list-i c = omega arith

@@ -24,8 +24,8 @@ overflow_add-r_target_len c = omega arith
 pub level-requires : goal.level-requires
 level-requires c =
     let a = c.args in
-    let wl = kids-length a.list (omega arith) (simp length-map at c.well_formed.0.1.1.1.0.1.0.1) in
-    let wr = kids-length a.other (omega arith) (simp length-map at c.well_formed.1.0.1.1.1.0.1.0.1) in
+    let wl = kids-length a.list (omega arith) (c.well_formed.0.1.1.1.0.1.0.1) in
+    let wr = kids-length a.other (omega arith) (c.well_formed.1.0.1.1.1.0.1.0.1) in
     let f = left-holds a.list wl (omega arith) a.list.len c.split_off-ours.result (omega arith) c.split_off-ours.ensures in
     let g = left-holds a.other wr (omega arith) a.other.len c.split_off-theirs.result (omega arith) c.split_off-theirs.ensures in
     (f.clean, g.clean, omega (arith, f.len), omega (arith, g.len), omega (arith, f.len, g.len))
@@ -43,8 +43,8 @@ returns-in-Refused-too c =
 pub returns-in-Accepted-too : goal.returns-in-Accepted-too
 returns-in-Accepted-too c =
     let a = c.args in
-    let wl = kids-length a.list (omega arith) (simp length-map at c.well_formed.0.1.1.1.0.1.0.1) in
-    let wr = kids-length a.other (omega arith) (simp length-map at c.well_formed.1.0.1.1.1.0.1.0.1) in
+    let wl = kids-length a.list (omega arith) (c.well_formed.0.1.1.1.0.1.0.1) in
+    let wr = kids-length a.other (omega arith) (c.well_formed.1.0.1.1.1.0.1.0.1) in
     let f = left-holds a.list wl (omega arith) a.list.len c.split_off-ours.result (omega arith) c.split_off-ours.ensures in
     let g = left-holds a.other wr (omega arith) a.other.len c.split_off-theirs.result (omega arith) c.split_off-theirs.ensures in
     let e = ap (λ (t : List Kid). t ++ kids c.split_off-theirs.result.left) (is-kids c.split_off-ours.result.left _ f.is ∙ whole a.list)

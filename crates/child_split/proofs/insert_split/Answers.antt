@@ -25,6 +25,6 @@ returns-then-idx-n c =
 pub returns : goal.returns
 returns c =
     let a = c.args in
-    let w = kids-length a.list (omega arith) (simp length-map at c.well_formed.0.1.1.1.0.1.0.1) in
+    let w = kids-length a.list (omega arith) (c.well_formed.0.1.1.1.0.1.0.1) in
     parting-same _ a.list (list_of []) _ _ (insert-split-done a.list a.idx a.item (omega arith) (omega arith) (omega arith))
     (rw (insert-behind (kids a.list) a.idx a.item (omega arith)) at c.split_with.ensures)

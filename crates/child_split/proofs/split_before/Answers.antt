@@ -17,7 +17,7 @@ pub split_with-requires : goal.split_with-requires
 split_with-requires c =
     let a = c.args in
     let p = c.pop-last in
-    let w = kids-length a.list (omega arith) (simp length-map at c.well_formed.0.1.1.1.0.1.0.1) in
+    let w = kids-length a.list (omega arith) (c.well_formed.0.1.1.1.0.1.0.1) in
     let f = popped-holds a.list w (omega arith) p.result (omega arith) p.ensures in
     let i = inserted-holds p.result.list (clean-length _ f.clean) a.idx a.item c.insert-more.result (omega (arith, f.len)) (omega (arith, f.len)) c.insert-more.ensures in
     (omega (arith, i.len, f.len), omega (arith, i.len, f.len))
@@ -29,7 +29,7 @@ pub returns-in-Refused-may : goal.returns-in-Refused-may
 returns-in-Refused-may c =
     let a = c.args in
     let p = c.pop-last in
-    let w = kids-length a.list (omega arith) (simp length-map at c.well_formed.0.1.1.1.0.1.0.1) in
+    let w = kids-length a.list (omega arith) (c.well_formed.0.1.1.1.0.1.0.1) in
     let f = popped-holds a.list w (omega arith) p.result (omega arith) p.ensures in
     verdict-never _ c.insert-more.result.verdict (c.insert-more.ensures.answered ∙ ap (mapped (λ x. tt)) (inserted-done p.result.list a.idx a.item (omega (arith, f.len)) (omega (arith, f.len)))) c.in-Refused-may.is
 
@@ -40,7 +40,7 @@ returns-in-Accepted-may c =
     let n = c.insert-more in
     let fits : a.list.len ≤ 16 = omega arith in
     let lt : a.idx < a.list.len = omega arith in
-    let w = kids-length a.list fits (simp length-map at c.well_formed.0.1.1.1.0.1.0.1) in
+    let w = kids-length a.list fits (c.well_formed.0.1.1.1.0.1.0.1) in
     let f = popped-holds a.list w fits p.result (omega arith) p.ensures in
     let i = inserted-holds p.result.list (clean-length _ f.clean) a.idx a.item n.result (omega (arith, f.len)) (omega (arith, f.len)) n.ensures in
     let e = insert-extra a.list p.result.list n.result.list _ _ a.idx a.item p.result.kid w lt f i (popped-kid a.list w fits p.result (omega arith) p.ensures) in

@@ -20,7 +20,7 @@ pub returns-in-Refused : goal.returns-in-Refused
 returns-in-Refused c =
     let a = c.args in
     let two = c.split_off-two in
-    let w = kids-length a.list (omega arith) (simp length-map at c.well_formed.0.1.1.1.0.1.0.1) in
+    let w = kids-length a.list (omega arith) (c.well_formed.0.1.1.1.0.1.0.1) in
     let r = right-holds a.list w (omega arith) _ two.result (omega arith) two.ensures in
     verdict-never _ c.push-more.result.verdict (c.push-more.ensures.answered ∙ ap (mapped (λ x. tt)) (pushed-done two.result.right a.item (omega (arith, r.len)))) c.in-Refused.is
 
@@ -29,7 +29,7 @@ returns-in-Accepted-may c =
     let a = c.args in
     let two = c.split_off-two in
     let n = c.push-more in
-    let w = kids-length a.list (omega arith) (simp length-map at c.well_formed.0.1.1.1.0.1.0.1) in
+    let w = kids-length a.list (omega arith) (c.well_formed.0.1.1.1.0.1.0.1) in
     let l = left-holds a.list w (omega arith) _ two.result (omega arith) two.ensures in
     let r = right-holds a.list w (omega arith) _ two.result (omega arith) two.ensures in
     let p = pushed-holds two.result.right (clean-length _ r.clean) a.item n.result (omega (arith, r.len)) n.ensures in

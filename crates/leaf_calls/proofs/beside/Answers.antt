@@ -14,7 +14,7 @@ returns-then-right_len-right c =
     let a = c.args in
     let long = length (leaf_of a.right.now a.right_len) in
     let is : a.right_len ≡ long = omega (arith, length-take a.right_len a.right.now) in
-    ap (λ (k : ℕ). value (c.in-Is.n, k)) is ∙ sym (ap (λ (x : Number). mapped (λ k. (k, long)) (number x)) c.in-Is.is)
+    ap (λ (k : ℕ). value (c.in-Is.k, k)) is ∙ sym (ap (λ (x : Number). mapped (λ k. (k, long)) (number x)) c.in-Is.is)
 
 pub returns-in-Refused : goal.returns-in-Refused
 returns-in-Refused c =
@@ -27,4 +27,4 @@ returns-else-right_len-right c =
     let a = c.args in
     let long = length (leaf_of a.right.now a.right_len) in
     let is : length a.right.now ≡ long = omega (arith, length-take a.right_len a.right.now) in
-    ap (λ (k : ℕ). value (c.in-Is.n, k)) is ∙ sym (ap (λ (x : Number). mapped (λ k. (k, long)) (number x)) c.in-Is.is)
+    ap (λ (k : ℕ). value (c.in-Is.k, k)) is ∙ sym (ap (λ (x : Number). mapped (λ k. (k, long)) (number x)) c.in-Is.is)

@@ -23,3 +23,6 @@ returns c =
     let o = region-opened c.region_start-first.result a.m.now a.slot _ c.region_start-first.ensures c.in-Is.is in
     c.checked.ensures
     ∙ ap (λ (l : List ℕ). ruled (off_chars l a.start a.end ∷ no_text l a.piece.now ∷ []) (length l)) (text-lent a.m.now a.slot _ a.n o.1 c.requires.1)
+
+pub slice_bounds-checked-end : goal.slice_bounds-checked-end
+slice_bounds-checked-end c = omega (arith, c.requires.1, region-opened c.region_start-first.result c.args.m.now c.args.slot _ c.region_start-first.ensures c.in-Is.is)

@@ -20,3 +20,6 @@ returns c =
     let a = c.args in
     let o = region-opened c.region_start-start.result a.m.now a.slot _ c.region_start-start.ensures c.in-Is.is in
     copy_done a.m.now a.slot a.n a.out.now c.if-out-n.false c.requires.1 o.0 _ (text-lent a.m.now a.slot _ a.n o.1 c.requires.1) _ _ c.replace.ensures
+
+pub slice_bounds-replace-end : goal.slice_bounds-replace-end
+slice_bounds-replace-end c = let a = c.args in omega (arith, region-opened c.region_start-start.result a.m.now a.slot _ c.region_start-start.ensures c.in-Is.is)

@@ -52,3 +52,8 @@ returns-in-Are c =
     let a = c.args in
     let o = region-opened c.region_start.result a.m.now a.slot _ c.region_start.ensures c.in-Is.is in
     halve-done a.m.now a.slot o.0 _ _ o.1 refl a.right (inside a.m.now a.right c.requires.1) a.n a.at a.piece.now a.side.now c.requires.2 _ _ _ c.insert_str_split-done.ensures _ _ c.in-Are.is c.make_two.result _ c.make_two.ensures.0 c.make_two.ensures.1
+
+pub slice_bounds-insert_str_split-end : goal.slice_bounds-insert_str_split-end
+slice_bounds-insert_str_split-end c =
+    let a = c.args in
+    omega (arith, region-opened c.region_start.result a.m.now a.slot _ c.region_start.ensures c.in-Is.is)

@@ -31,3 +31,8 @@ returns-in-Is-replace c =
       edited-told a.m.now a.slot o.0 _ _ o.1 refl 0 0 0 a.text.now _ _ c.replace.ensures _ c.in-Is-replace.is c.set_leaf.result _ c.set_leaf.ensures,
       whole-laid a.m.now a.slot o.0 _ _ o.1 refl a.text.now c.requires.1 _ _ c.replace.ensures _ c.in-Is-replace.is c.set_leaf.result _ c.set_leaf.ensures,
     )
+
+pub slice_bounds-replace-end : goal.slice_bounds-replace-end
+slice_bounds-replace-end c =
+    let a = c.args in
+    omega (arith, region-opened c.region_start.result a.m.now a.slot _ c.region_start.ensures c.in-Is.is)

@@ -34,3 +34,8 @@ returns-in-Accepted c =
     let a = c.args in
     let o = region-opened c.region_start-first.result a.m.now a.slot _ c.region_start-first.ensures c.in-Is.is in
     replace-set a.m.now a.slot o.0 _ _ o.1 refl a.n a.start a.end a.piece.now _ _ c.replace-done.ensures _ c.set_leaf.result _ c.in-Is-done.is c.set_leaf.ensures
+
+pub slice_bounds-replace-end : goal.slice_bounds-replace-end
+slice_bounds-replace-end c =
+    let a = c.args in
+    omega (arith, region-opened c.region_start-first.result a.m.now a.slot _ c.region_start-first.ensures c.in-Is.is)

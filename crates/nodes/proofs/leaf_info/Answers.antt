@@ -18,3 +18,6 @@ returns-in-Is c =
     let a = c.args in
     let o = region-opened c.region_start.result a.m.now a.slot _ c.region_start.ensures c.in-Is.is in
     c.from_str.ensures ∙ ap leaf_info (text-lent a.m.now a.slot _ a.n o.1 c.requires.1)
+
+pub slice_bounds-from_str-end : goal.slice_bounds-from_str-end
+slice_bounds-from_str-end c = let a = c.args in omega (arith, region-opened c.region_start.result a.m.now a.slot _ c.region_start.ensures c.in-Is.is)

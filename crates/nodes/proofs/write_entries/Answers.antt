@@ -11,7 +11,7 @@ use Rattle.nodes.proofs.Rules.{kid_is, kid-set, put-turn, put-end, fits-turn}
 use Rattle.nodes.proofs.write_entries.Goals as goal
 
 pub loop-i-init : goal.loop-i-init
-loop-i-init c = (omega arith, simp length-map at c.well_formed.1.1.0.1.1.1.0.1.0.1, refl, refl, λ j h. absurd (omega arith))
+loop-i-init c = (omega arith, c.well_formed.1.1.0.1.1.1.0.1.0.1, refl, refl, λ j h. absurd (omega arith))
 
 pub offset_bounds-list-i : goal.offset_bounds-list-i
 offset_bounds-list-i c = omega arith

@@ -41,3 +41,10 @@ returns c =
     let o = region-opened _ a.m.now a.slot _ c.region_start-start.ensures c.in-Is.is in
     let e = lent-turned _ _ _ _ a.idx _ (lent-text a.m.now a.slot _ _ o.1 h.1 h.2) c.turn.ensures.0 in
     (ap (λ (n : ℕ). value n) e, omega (arith, e, c.turn.ensures.1))
+
+pub slice_bounds-turn-end : goal.slice_bounds-turn-end
+slice_bounds-turn-end c =
+    let a = c.args in
+    let h = head-leaf a.m.now a.slot _ c.head_of.ensures _ c.in-Leaf.is in
+    let o = region-opened _ a.m.now a.slot _ c.region_start-start.ensures c.in-Is.is in
+    omega (arith, h.2, o.0, o.1)

@@ -12,7 +12,7 @@ use Rattle.child_info.proofs.Turns.{turn-hit, turn_on, turn_end, some-law}
 use Rattle.child_info.proofs.checks.some.Goals as goal
 
 pub loop-i-init : goal.loop-i-init
-loop-i-init c = (omega arith, simp length-map at c.well_formed.1.0.1.1.1.0.1.0.1, refl)
+loop-i-init c = (omega arith, c.well_formed.1.0.1.1.1.0.1.0.1, refl)
 
 pub offset_bounds-list-i : goal.offset_bounds-list-i
 offset_bounds-list-i c = omega arith

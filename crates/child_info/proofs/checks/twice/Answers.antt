@@ -13,7 +13,7 @@ use Rattle.child_info.proofs.Turns.{turn-hit, turn_on, turn_end, repeats-law}
 use Rattle.child_info.proofs.checks.twice.Goals as goal
 
 pub loop-i-init : goal.loop-i-init
-loop-i-init c = (omega arith, simp length-map at c.well_formed.0.1.1.1.0.1.0.1, refl)
+loop-i-init c = (omega arith, c.well_formed.0.1.1.1.0.1.0.1, refl)
 
 pub overflow_add-i : goal.overflow_add-i
 overflow_add-i c = omega arith

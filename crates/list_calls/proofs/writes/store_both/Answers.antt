@@ -10,4 +10,4 @@ pub returns-in_default-first : goal.returns-in_default-first
 returns-in_default-first c = let a = c.args in first-never a.m.now a.slot a.other a.left a.right _ c.fit_both-v.ensures c.in-Accepted.is _ _ c.store-first.ensures.0 _ c.in_default-first.is
 
 pub returns : goal.returns
-returns c = both-done _ _ _ _ _ _ c.fit_both-v.ensures c.in-Accepted.is _ _ c.store-first.ensures.0 (simp length-map at c.well_formed.1.1.1.0.1.1.1.0.1.0.1) _ _ c.store.ensures.0
+returns c = both-done _ _ _ _ _ _ c.fit_both-v.ensures c.in-Accepted.is _ _ c.store-first.ensures.0 (c.well_formed.1.1.1.0.1.1.1.0.1.0.1) _ _ c.store.ensures.0

@@ -16,7 +16,7 @@ use Rattle.merge.proofs.JoinedLists.{push-holds}
 use Rattle.merge.proofs.join.append.Goals as goal
 
 pub loop-i-init : goal.loop-i-init
-loop-i-init c = (omega arith, simp length-map at c.well_formed.1.0.1.1.1.0.1.0.1, append-start c.args.left c.args.right 0 c.requires.1)
+loop-i-init c = (omega arith, c.well_formed.1.0.1.1.1.0.1.0.1, append-start c.args.left c.args.right 0 c.requires.1)
 
 pub offset_bounds-right-i : goal.offset_bounds-right-i
 offset_bounds-right-i c = omega arith

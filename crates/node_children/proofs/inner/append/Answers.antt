@@ -12,7 +12,7 @@ use Rattle.node_children.proofs.inner.append.Goals as goal
 
 pub loop-i-init : goal.loop-i-init
 loop-i-init c =
-    (omega arith, omega arith, simp length-map at c.well_formed.1.0.1.1.1.0.1.0.1, append-start c.args.into c.args.from c.args.start c.requires.4)
+    (omega arith, omega arith, c.well_formed.1.0.1.1.1.0.1.0.1, append-start c.args.into c.args.from c.args.start c.requires.4)
 
 pub offset_bounds-from-i : goal.offset_bounds-from-i
 offset_bounds-from-i c = omega arith
