@@ -11,6 +11,9 @@ use Rattle.tree_check.proofs.texts.check_leaf.Goals as goal
 pub overflow_add-at : goal.overflow_add-at
 overflow_add-at c = let a = c.args in omega (arith, region-opened c.region_start.result a.m.now a.slot _ c.region_start.ensures c.in-Is.is)
 
+pub slice_bounds-check_text-end : goal.slice_bounds-check_text-end
+slice_bounds-check_text-end c = let a = c.args in omega (arith, region-opened c.region_start.result a.m.now a.slot _ c.region_start.ensures c.in-Is.is)
+
 pub returns-in-Refused : goal.returns-in-Refused
 returns-in-Refused c = let a = c.args in absurd (region-there c.region_start.result a.m.now a.slot _ c.region_start.ensures c.in-Refused.is (inside a.m.now a.slot c.requires.0))
 
