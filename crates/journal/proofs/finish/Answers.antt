@@ -37,10 +37,10 @@ returns c =
     let N = note_of a.m.now in
     let o = take a.put a.out.now in
     let f = c.put_field-q in
-    let same : length f.new.0 ≡ length a.out.now = f.auto.0 in
+    let same : length f.new.out ≡ length a.out.now = f.auto.out in
     let first : a.put + 50 ≤ length a.out.now = omega (arith, pre.1) in
     let q = f.ensures.0 first in
-    let room : f.result + 20590 ≤ length f.new.0 = omega (arith, pre.1, q.0) in
+    let room : f.result + 20590 ≤ length f.new.out = omega (arith, pre.1, q.0) in
     let p = (c.put_ending-p-2.ensures.0 pre.0).0 room in
     record {
       used = refl;

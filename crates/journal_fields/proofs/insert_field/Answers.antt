@@ -21,6 +21,6 @@ returns c =
     let b = a.body.now in
     let i = c.insert-answer in
     let p = c.number_at-place in
-    applied-call (asked 1 b) a.m.now by _ (change i.result) c.code_of_change.result i.new.0
+    applied-call (asked 1 b) a.m.now by _ (change i.result) c.code_of_change.result i.new.m
     (asks-insert b (omega arith) ∙ ap (λ (x : ℕ). value (insert x (drop 4 b))) (sym p.ensures.0) ∙ ap (λ (l : List ℕ). value (insert p.result l)) (sym (take_all (length b - 4) (drop 4 b) (omega (arith, length-drop 4 b)))))
     c.code_of_change.ensures (change i.result, refl, i.ensures)

@@ -17,6 +17,6 @@ returns c =
     let b = a.body.now in
     let r = c.set_mark-answer in
     let p = c.number_at-place in
-    applied-call (asked 3 b) a.m.now is _ (number r.result) c.code_of_number.result r.new.0
+    applied-call (asked 3 b) a.m.now is _ (number r.result) c.code_of_number.result r.new.m
     (asks-mark b c.if-body-ne4.false ∙ ap (λ (x : ℕ). value (set_mark x)) (sym p.ensures.0))
     c.code_of_number.ensures (number r.result, refl, r.ensures)

@@ -19,6 +19,6 @@ returns c =
     let r = c.remove-answer in
     let s = c.number_at-start in
     let e = c.number_at-end in
-    applied-call (asked 2 b) a.m.now by _ (change r.result) c.code_of_change.result r.new.0
+    applied-call (asked 2 b) a.m.now by _ (change r.result) c.code_of_change.result r.new.m
     (asks-remove b c.if-body-ne8.false ∙ ap (λ (x : ℕ). value (remove x (four_at b 4))) (sym s.ensures.0) ∙ ap (λ (x : ℕ). value (remove s.result x)) (sym e.ensures.0))
     c.code_of_change.ensures (change r.result, refl, r.ensures)

@@ -21,7 +21,7 @@ returns c =
     let f = c.field_bytes-used in
     let w = one-whole a.s.now f.result f.ensures.0 c.if-used-eq0.false in
     let x = c.apply-done in
-    (w.0, w.1, as-asked a.s.now f.result w.1 a.m.now x.new.0 x.result x.result refl x.ensures)
+    (w.0, w.1, as-asked a.s.now f.result w.1 a.m.now x.new.m x.result x.result refl x.ensures)
 
 pub slice_bounds-apply-end : goal.slice_bounds-apply-end
 slice_bounds-apply-end c = let w = one-whole c.args.s.now c.field_bytes-used.result c.field_bytes-used.ensures.0 (λ z. c.if-used-eq0.false z) in omega (arith, w.2)

@@ -1,4 +1,5 @@
 -- `text_at` meets its contract: the part of the memory that the head says, or none.
+use borrow.Enum.Refused.{opened}
 use mathlib.Core.Path.{refl}
 use Prim.Native.Nat.{◌+◌}
 use native.Mathlib.Omega.{arith}
@@ -13,7 +14,7 @@ use Rattle.leaf_parts.proofs.text_at.Goals as goal
 pub returns-in_default : goal.returns-in_default
 returns-in_default c =
     let a = c.args in
-    let e = no_text a.m.now a.slot (head-no-leaf a.m.now a.slot c.head_of.result c.head_of.ensures c.in_default.keys2) in
+    let e = no_text a.m.now a.slot (head-no-leaf a.m.now a.slot c.head_of.result c.head_of.ensures (opened c.in_default.in_default-own.keys2)) in
     (e.0, e.1, record { from = 0; block = refl; offset = omega arith; inside = omega arith })
 
 pub returns-in_default-region_start : goal.returns-in_default-region_start

@@ -55,6 +55,6 @@ returns c =
     let v = put.ensures.0 room in (
       v.0,
       due-next N a.k a.put.count a.lines.now c.requires.1 inside _ here,
-      subst (λ (l : List ℕ). Laid a.put.end l a.out.now put.result put.new.0)
+      subst (λ (l : List ℕ). Laid a.put.end l a.out.now put.result put.new.out)
           (ap (mark_line a.k c.in-Is.p) (due-line N a.k a.put.count a.lines.now c.requires.1 inside _ here) ∙ sym (ap (mark_row N.text a.k) here)) v.1,
     )

@@ -10,4 +10,4 @@ returns c =
     let h = c.height-height in
     let r = c.root-root in
     let a = c.args in
-    root-met a.m.now a.seen.now k.new.1.0 k.result r.result h.result l.result _ r.ensures h.ensures l.ensures refl k.ensures
+    root-met a.m.now a.seen.now k.new.seen k.result r.result h.result l.result _ r.ensures h.ensures l.ensures refl k.ensures

@@ -11,21 +11,19 @@ pub returns-in_default : goal.returns-in_default
 returns-in_default c =
     let k = c.check_root in
     let a = c.args in
-    tree-not a.m.now a.seen.now c.requires (subst (λ (r : Met). RootMet a.m.now a.seen.now k.new.1.0 r) c.in_default.is k.ensures)
+    tree-not a.m.now a.seen.now c.requires (subst (λ (r : Met). RootMet a.m.now a.seen.now k.new.seen r) c.in_default.is k.ensures)
 
 pub returns-then-not-head_right : goal.returns-then-not-head_right
 returns-then-not-head_right c =
     let k = c.check_root in
     let a = c.args in
-    let g = c.sum-1.given in
-    head-not a.m.now a.seen.now c.requires k.new.1.0 g.0.0 _ _ (subst (λ (r : Met). RootMet a.m.now a.seen.now k.new.1.0 r) g.1 k.ensures)
-    (ap (λ (n : ℕ). head_right a.m.now n g.0.0) (sym k.auto.1.0) ∙ sym c.head_right.ensures ∙ not-true _ c.if-not-head_right.true-raw)
+    head-not a.m.now a.seen.now c.requires k.new.seen c.in-Fine.sum _ _ (subst (λ (r : Met). RootMet a.m.now a.seen.now k.new.seen r) c.in-Fine.is k.ensures)
+    (ap (λ (n : ℕ). head_right a.m.now n c.in-Fine.sum) (sym k.auto.seen) ∙ sym c.head_right.ensures ∙ not-true _ c.if-not-head_right.true-raw)
 
 pub returns : goal.returns
 returns c =
     let k = c.check_root in
     let a = c.args in
-    let g = c.sum-1.given in
-    own-so a.m.now a.seen.now c.requires k.new.1.0 g.0.0 _ _ (subst (λ (r : Met). RootMet a.m.now a.seen.now k.new.1.0 r) g.1 k.ensures)
-    (ap (λ (n : ℕ). head_right a.m.now n g.0.0) (sym k.auto.1.0) ∙ sym c.head_right.ensures ∙ not-false _ c.if-not-head_right.false-raw)
+    own-so a.m.now a.seen.now c.requires k.new.seen c.in-Fine.sum _ _ (subst (λ (r : Met). RootMet a.m.now a.seen.now k.new.seen r) c.in-Fine.is k.ensures)
+    (ap (λ (n : ℕ). head_right a.m.now n c.in-Fine.sum) (sym k.auto.seen) ∙ sym c.head_right.ensures ∙ not-false _ c.if-not-head_right.false-raw)
     c.slots_right.result c.slots_right.ensures

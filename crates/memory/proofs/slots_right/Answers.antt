@@ -13,7 +13,7 @@ returns-then-not-walk c =
     let f = c.first_free in
     let a = c.args in
     let n = length a.seen.now in
-    sorted-not a.m.now a.seen.now w.new.1.0 n refl c.requires.1 f.result f.ensures.0 (subst (λ (t : Bool). Walked a.m.now n f.result a.seen.now w.new.1.0 t) (not-true w.result c.if-not-walk.true-raw) w.ensures)
+    sorted-not a.m.now a.seen.now w.new.seen n refl c.requires.1 f.result f.ensures.0 (subst (λ (t : Bool). Walked a.m.now n f.result a.seen.now w.new.seen t) (not-true w.result c.if-not-walk.true-raw) w.ensures)
 
 pub returns : goal.returns
 returns c =
@@ -21,5 +21,5 @@ returns c =
     let f = c.first_free in
     let a = c.args in
     let n = length a.seen.now in
-    sorted-so a.m.now a.seen.now w.new.1.0 n refl c.requires.1 f.result f.ensures.0 (subst (λ (t : Bool). Walked a.m.now n f.result a.seen.now w.new.1.0 t) (not-false w.result c.if-not-walk.false-raw) w.ensures) w.auto.1.0
+    sorted-so a.m.now a.seen.now w.new.seen n refl c.requires.1 f.result f.ensures.0 (subst (λ (t : Bool). Walked a.m.now n f.result a.seen.now w.new.seen t) (not-false w.result c.if-not-walk.false-raw) w.ensures) w.auto.seen
     c.all_met.result c.all_met.ensures

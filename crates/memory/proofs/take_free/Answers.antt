@@ -1,4 +1,5 @@
 -- `take_free` meets its contract.
+use borrow.Enum.Refused.{opened}
 use mathlib.Core.Path.{refl}
 use native.Mathlib.Omega.{arith}
 use lib.ListN.{length}
@@ -9,7 +10,7 @@ use Rattle.memory.proofs.take_free.Goals as goal
 pub returns-in_default : goal.returns-in_default
 returns-in_default c =
     let a = c.args in
-    λ h k e. free-not a.m.now a.slot (length a.seen.now) c.requires c.head_of.result c.head_of.ensures c.in_default.keys2 h k
+    λ h k e. free-not a.m.now a.slot (length a.seen.now) c.requires c.head_of.result c.head_of.ensures (opened c.in_default.in_default-own.keys2) h k
 
 pub bounds-seen-slot : goal.bounds-seen-slot
 bounds-seen-slot c =

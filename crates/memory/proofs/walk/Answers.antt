@@ -27,19 +27,19 @@ take_free-requires c =
 pub shape_of-seen-in_default : goal.shape_of-seen-in_default
 shape_of-seen-in_default c =
     let k = c.take_free in
-    k.auto.1.0 ∙ c.loop-left.invariant.size
+    k.auto.seen ∙ c.loop-left.invariant.size
 
 pub returns-in_default : goal.returns-in_default
 returns-in_default c =
     let k = c.take_free in
     let a = c.args in
     walk-stuck a.m.now (length a.seen.now) a.first a.seen.now c.loop-left.seen c.loop-left.left c.loop-left.at c.loop-left.invariant (omega arith) c.if-at-n.false
-    (subst (λ (r : Step). Stepped a.m.now c.loop-left.seen k.new.1.0 c.loop-left.at r) c.in_default.is k.ensures)
+    (subst (λ (r : Step). Stepped a.m.now c.loop-left.seen k.new.seen c.loop-left.at r) c.in_default.is k.ensures)
 
 pub take_row-k-requires : goal.take_row-k-requires
 take_row-k-requires c =
     let k = c.take_free in
-    let same = k.auto.1.0 ∙ c.loop-left.invariant.size in
+    let same = k.auto.seen ∙ c.loop-left.invariant.size in
     (c.requires ∙ ap need (sym same), omega (arith, same, c.row_most.ensures.1))
 
 pub loop-left-preserved : goal.loop-left-preserved
@@ -47,11 +47,10 @@ loop-left-preserved c =
     let r = c.take_row-k in
     let k = c.take_free in
     let a = c.args in
-    let next = c.next-1.given in
-    let t : Took a.m.now c.loop-left.seen k.new.1.0 c.loop-left.at next.0.0 =
-    subst (λ (r : Step). Stepped a.m.now c.loop-left.seen k.new.1.0 c.loop-left.at r) next.1 k.ensures in
-    let one = walk-on a.m.now (length a.seen.now) a.first a.seen.now c.loop-left.seen k.new.1.0 c.loop-left.left c.loop-left.at next.0.0 c.loop-left.invariant (omega arith) t in
-    walk-row a.m.now (length a.seen.now) a.first a.seen.now k.new.1.0 (c.loop-left.left - 1) next.0.0 one r.result r.new.1.0
+    let t : Took a.m.now c.loop-left.seen k.new.seen c.loop-left.at c.in-To.next =
+    subst (λ (r : Step). Stepped a.m.now c.loop-left.seen k.new.seen c.loop-left.at r) c.in-To.is k.ensures in
+    let one = walk-on a.m.now (length a.seen.now) a.first a.seen.now c.loop-left.seen k.new.seen c.loop-left.left c.loop-left.at c.in-To.next c.loop-left.invariant (omega arith) t in
+    walk-row a.m.now (length a.seen.now) a.first a.seen.now k.new.seen (c.loop-left.left - 1) c.in-To.next one r.result r.new.seen
     (omega (arith, r.ensures.0, c.row_most.ensures.0)) r.ensures.1
 
 pub shape_of-seen : goal.shape_of-seen

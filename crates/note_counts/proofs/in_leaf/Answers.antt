@@ -1,4 +1,5 @@
 -- `in_leaf` meets its contract: the text is the part of the memory that is lent.
+use borrow.Enum.Refused.{opened}
 use mathlib.Core.Path.{sym, ap, ◌∙◌}
 use mathlib.Core.Bool.{false≢true}
 use Prim.Native.Nat.{ℕ}
@@ -14,7 +15,7 @@ use Rattle.note_counts.proofs.Rules.{lent-text, lent-turned}
 use Rattle.note_counts.proofs.in_leaf.Goals as goal
 
 pub returns-in_default : goal.returns-in_default
-returns-in_default c = let a = c.args in absurd (false≢true (sym (head-no-leaf a.m.now a.slot c.head_of.result c.head_of.ensures c.in_default.keys2) ∙ c.requires.0))
+returns-in_default c = let a = c.args in absurd (false≢true (sym (head-no-leaf a.m.now a.slot c.head_of.result c.head_of.ensures (opened c.in_default.in_default-own.keys2)) ∙ c.requires.0))
 
 pub returns-in_default-start : goal.returns-in_default-start
 returns-in_default-start c = let a = c.args in absurd (region-there _ a.m.now a.slot _ c.region_start-start.ensures c.in_default-start.is (leaf-says a.m.now a.slot c.requires.0).0)

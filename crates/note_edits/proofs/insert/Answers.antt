@@ -40,7 +40,7 @@ returns-in-Refused-insert_own c = never _ c.insert_own.ensures.0 _ c.in-Refused-
 pub returns-in-Accepted-insert_own : goal.returns-in-Accepted-insert_own
 returns-in-Accepted-insert_own c =
     let a = c.args in
-    let later = c.insert_own.new.0 in
+    let later = c.insert_own.new.m in
     let k = c.need-end.ensures in
     let o = own-front a.m.now _ k in
     insert-done a.m.now a.p a.piece.now (sym (ap verdict c.in-Accepted.is) ∙ c.insert_refusal-may.ensures) later

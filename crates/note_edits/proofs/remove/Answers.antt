@@ -39,7 +39,7 @@ returns-in-Refused-remove_own c = never _ c.remove_own.ensures.0 _ c.in-Refused-
 pub returns-in-Accepted-remove_own : goal.returns-in-Accepted-remove_own
 returns-in-Accepted-remove_own c =
     let a = c.args in
-    let later = c.remove_own.new.0 in
+    let later = c.remove_own.new.m in
     let k = c.need-end.ensures in
     let o = own-front a.m.now _ k in
     remove-done a.m.now a.s a.e (sym (ap verdict c.in-Accepted.is) ∙ c.remove_refusal-may.ensures) later

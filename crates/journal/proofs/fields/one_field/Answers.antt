@@ -7,22 +7,19 @@ pub returns-in_default : goal.returns-in_default
 returns-in_default c =
     let a = c.args in
     let x = c.take_field in
-    let z = took-none a.m.now x.new.0 a.s.now x.result x.ensures c.in_default.is in
+    let z = took-none a.m.now x.new.m a.s.now x.result x.ensures c.in_default.is in
     (z.0, z.1, refl)
 
 pub returns-in_default-done : goal.returns-in_default-done
 returns-in_default-done c =
     let a = c.args in
     let x = c.take_field in
-    let u = c.used-1.given in
-    let w = took_it a.m.now x.new.0 a.s.now x.result x.ensures u.0.0 u.0.1.0 _ u.1 c.in_default-done.is in
+    let w = took_it a.m.now x.new.m a.s.now x.result x.ensures c.in-Whole.used c.in-Whole.done _ c.in-Whole.is c.in_default-done.is in
     (w.0, w.1, w.2, c.put_field-p.ensures)
 
 pub returns : goal.returns
 returns c =
     let a = c.args in
     let x = c.take_field in
-    let u = c.used-1.given in
-    let d = c.done-1.given in
-    let w = took_it a.m.now x.new.0 a.s.now x.result x.ensures u.0.0 u.0.1.0 _ u.1 d.1 in
-    (d.0.0, (w.0, w.1, w.2, c.put_field-p-2.ensures))
+    let w = took_it a.m.now x.new.m a.s.now x.result x.ensures c.in-Whole.used c.in-Whole.done _ c.in-Whole.is c.in-Code.is in
+    (c.in-Code.n, (w.0, w.1, w.2, c.put_field-p-2.ensures))
