@@ -37,8 +37,8 @@ returns c =
     let e = text-there a.m.now a.slot _ _ h.0 h.1 h.2 o.1 o.0 in
     (e.0, e.1, record { from = slot_start a.slot + 128; block = refl; offset = omega (arith, o.1); inside = simp (length-take, length-drop) (omega (arith, h.2, o.0, o.1)) })
 
-pub slice_bounds-result-end : goal.slice_bounds-result-end
-slice_bounds-result-end c =
+pub slice_bounds-result-end-2 : goal.slice_bounds-result-end-2
+slice_bounds-result-end-2 c =
     let a = c.args in
     let h = head-leaf a.m.now a.slot c.head_of.result c.head_of.ensures _ c.in-Leaf.is in
     omega (arith, h.2, region-opened c.region_start.result a.m.now a.slot _ c.region_start.ensures c.in-Is.is)
