@@ -26,4 +26,4 @@ returns c =
     let a = c.args in
     let v = c.serve-r in
     let d = c.slide-n in
-    advances a.m.now v.new.m a.buf.now d.new.buf a.out.now v.new.buf.1.1.1.0 a.st v.result d.result (omega arith) v.ensures d.ensures
+    advances a.m.now v.new.m a.buf.now d.new.buf a.out.now v.new.out a.st v.result d.result (omega arith) v.ensures d.ensures

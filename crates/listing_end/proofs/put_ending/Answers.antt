@@ -52,4 +52,4 @@ returns c =
     let put = c.put_lines in
     let f = lined-fits a.m.now put.new.out _ (subst (λ (r : Number). Lined a.m.now r put.new.out) c.in-Is.is put.ensures) in
     let w = c.whole_ending in
-    (λ z. with-room 20590 a.at (ending (note_of a.m.now)) a.out.now w.result w.new.lines.1.0 (sym c.has_room.ensures ∙ not-false _ c.if-not-has_room.false-raw) w.ensures, λ z. absurd (false≢true (sym z ∙ f.0)))
+    (λ z. with-room 20590 a.at (ending (note_of a.m.now)) a.out.now w.result w.new.out (sym c.has_room.ensures ∙ not-false _ c.if-not-has_room.false-raw) w.ensures, λ z. absurd (false≢true (sym z ∙ f.0)))

@@ -33,10 +33,10 @@ loop-k-preserved c =
     let row = place_row (mark_of N L.k) in (
       omega arith,
       omega (arith, r.ensures.0, L.invariant.1),
-      r.auto.k.1.0 ∙ L.invariant.2,
+      r.auto.out ∙ L.invariant.2,
       (
         done ++ row,
-        then-laid a.out.now L.out r.new.k.1.0 done row 0 L.n r.result L.invariant.3.1 r.ensures.1,
+        then-laid a.out.now L.out r.new.out done row 0 L.n r.result L.invariant.3.1 r.ensures.1,
         rows-turn (λ j. places) N.marks (λ j. place_row) (λ j. place-one) L.k done (omega (arith, marks-256 a.m.now)) L.invariant.3.2,
       ),
     )

@@ -33,11 +33,11 @@ loop-k-preserved c =
     let row = mark_row N.text L.k (mark_of N L.k) in (
       omega arith,
       omega (arith, r.ensures.0, L.invariant.1),
-      r.auto.lines.1.1.0 ∙ L.invariant.2,
+      r.auto.out ∙ L.invariant.2,
       r.ensures.1,
       (
         done ++ row,
-        then-laid a.out.now L.out r.new.lines.1.1.0 done row a.at L.put.end r.result.end L.invariant.4.1 r.ensures.2,
+        then-laid a.out.now L.out r.new.out done row a.at L.put.end r.result.end L.invariant.4.1 r.ensures.2,
         rows-turn (mark_rows N.text) N.marks (mark_row N.text) (row_one N.text) L.k done (omega (arith, marks-256 a.m.now)) L.invariant.4.2,
       ),
     )

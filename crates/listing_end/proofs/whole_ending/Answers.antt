@@ -14,6 +14,6 @@ returns c =
     let t = c.put_counts-a in
     let r = c.put_rows in (
       omega (arith, r.ensures.0, t.ensures.0),
-      subst (λ (l : List ℕ). Laid a.at l a.out.now r.result r.new.lines.1.0) (end_is a.m.now c.requires.0 _ c.root-root.ensures)
-          (then-laid a.out.now t.new.out r.new.lines.1.0 _ _ a.at t.result r.result t.ensures.1 r.ensures.1),
+      subst (λ (l : List ℕ). Laid a.at l a.out.now r.result r.new.out) (end_is a.m.now c.requires.0 _ c.root-root.ensures)
+          (then-laid a.out.now t.new.out r.new.out _ _ a.at t.result r.result t.ensures.1 r.ensures.1),
     )

@@ -22,6 +22,6 @@ returns c =
     let a = c.args in
     let done = c.converted_all_in in
     let f = converted_all a.from a.to a.indices.now in
-    subst (λ (o : Outcome (List ℕ)). Wrote o a.indices.now done.result done.new.from.1.1.0)
+    subst (λ (o : Outcome (List ℕ)). Wrote o a.indices.now done.result done.new.indices)
     (ap (λ (l : List ℕ). f (note_in l)) c.own_part.ensures.0 ∙ sym (well-formed a.m.now f _ c.check.ensures (not-false _ c.if-not-check.false-raw)))
     done.ensures

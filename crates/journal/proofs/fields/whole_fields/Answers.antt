@@ -19,8 +19,8 @@ returns-in-Short c =
     let L = c.loop-out in
     let a = c.args in
     let f = c.one_field-did in
-    let d = as_short L.m f.new.m a.buf.now L.out f.new.s.1.1.0 L.at L.put L.j f.result L.invariant.0 f.ensures c.in-Short.is in
-    fed a.m.now f.new.m a.buf.now a.out.now f.new.s.1.1.0 a.k L.at L.put L.j false c.requires.0 L.invariant.0 L.invariant.3 (omega (arith, L.invariant.4))
+    let d = as_short L.m f.new.m a.buf.now L.out f.new.out L.at L.put L.j f.result L.invariant.0 f.ensures c.in-Short.is in
+    fed a.m.now f.new.m a.buf.now a.out.now f.new.out a.k L.at L.put L.j false c.requires.0 L.invariant.0 L.invariant.3 (omega (arith, L.invariant.4))
     (subst (λ (l : List ℕ). Taking a.m.now f.new.m a.buf.now l a.k L.at L.put L.j false) (sym d.2) (subst (λ (l : List ℕ). Taking a.m.now l a.buf.now L.out a.k L.at L.put L.j false) (sym d.1) L.invariant.7))
     (λ e. inl d.0)
 
@@ -29,7 +29,7 @@ overflow_add-result c =
     let L = c.loop-out in
     let a = c.args in
     let f = c.one_field-did in
-    let d = as-bad L.m f.new.m a.buf.now L.out f.new.s.1.1.0 L.at L.put L.j f.result L.invariant.0 f.ensures c.in-Bad.used c.in-Bad.p c.in-Bad.is in
+    let d = as-bad L.m f.new.m a.buf.now L.out f.new.out L.at L.put L.j f.result L.invariant.0 f.ensures c.in-Bad.used c.in-Bad.p c.in-Bad.is in
     omega (arith, d.1.0)
 
 pub overflow_add-result-in-Bad : goal.overflow_add-result-in-Bad
@@ -37,7 +37,7 @@ overflow_add-result-in-Bad c =
     let L = c.loop-out in
     let a = c.args in
     let f = c.one_field-did in
-    let d = as-bad L.m f.new.m a.buf.now L.out f.new.s.1.1.0 L.at L.put L.j f.result L.invariant.0 f.ensures c.in-Bad.used c.in-Bad.p c.in-Bad.is in
+    let d = as-bad L.m f.new.m a.buf.now L.out f.new.out L.at L.put L.j f.result L.invariant.0 f.ensures c.in-Bad.used c.in-Bad.p c.in-Bad.is in
     omega (arith, d.1.0, d.1.1)
 
 pub returns-in-Bad : goal.returns-in-Bad
@@ -45,10 +45,10 @@ returns-in-Bad c =
     let L = c.loop-out in
     let a = c.args in
     let f = c.one_field-did in
-    let d = as-bad L.m f.new.m a.buf.now L.out f.new.s.1.1.0 L.at L.put L.j f.result L.invariant.0 f.ensures c.in-Bad.used c.in-Bad.p c.in-Bad.is in
+    let d = as-bad L.m f.new.m a.buf.now L.out f.new.out L.at L.put L.j f.result L.invariant.0 f.ensures c.in-Bad.used c.in-Bad.p c.in-Bad.is in
     let line = d.0.3.0 (omega arith) in
-    fed a.m.now f.new.m a.buf.now a.out.now f.new.s.1.1.0 a.k (L.at + c.in-Bad.used) c.in-Bad.p (L.j + 1) true c.requires.0 d.1.0 (omega (arith, line.0, d.1.1)) (omega (arith, line.0, L.invariant.4))
-    (taking-one a.m.now L.m f.new.m a.buf.now L.out f.new.s.1.1.0 a.k L.at L.put L.j c.in-Bad.used c.in-Bad.p _ c.requires.0 L.invariant.7 d.0.0 d.0.1 d.0.2 line.1.1)
+    fed a.m.now f.new.m a.buf.now a.out.now f.new.out a.k (L.at + c.in-Bad.used) c.in-Bad.p (L.j + 1) true c.requires.0 d.1.0 (omega (arith, line.0, d.1.1)) (omega (arith, line.0, L.invariant.4))
+    (taking-one a.m.now L.m f.new.m a.buf.now L.out f.new.out a.k L.at L.put L.j c.in-Bad.used c.in-Bad.p _ c.requires.0 L.invariant.7 d.0.0 d.0.1 d.0.2 line.1.1)
     (λ e. absurd (false≢true (sym e)))
 
 pub overflow_add-at : goal.overflow_add-at
@@ -56,7 +56,7 @@ overflow_add-at c =
     let L = c.loop-out in
     let a = c.args in
     let f = c.one_field-did in
-    let d = as-listed L.m f.new.m a.buf.now L.out f.new.s.1.1.0 L.at L.put L.j f.result L.invariant.0 f.ensures c.in-Listed.used c.in-Listed.p c.in-Listed.is in
+    let d = as-listed L.m f.new.m a.buf.now L.out f.new.out L.at L.put L.j f.result L.invariant.0 f.ensures c.in-Listed.used c.in-Listed.p c.in-Listed.is in
     omega (arith, d.1.0)
 
 pub overflow_add-j : goal.overflow_add-j
@@ -64,7 +64,7 @@ overflow_add-j c =
     let L = c.loop-out in
     let a = c.args in
     let f = c.one_field-did in
-    let d = as-listed L.m f.new.m a.buf.now L.out f.new.s.1.1.0 L.at L.put L.j f.result L.invariant.0 f.ensures c.in-Listed.used c.in-Listed.p c.in-Listed.is in
+    let d = as-listed L.m f.new.m a.buf.now L.out f.new.out L.at L.put L.j f.result L.invariant.0 f.ensures c.in-Listed.used c.in-Listed.p c.in-Listed.is in
     omega (arith, d.1.0, d.1.1)
 
 pub loop-out-smaller : goal.loop-out-smaller
@@ -72,7 +72,7 @@ loop-out-smaller c =
     let L = c.loop-out in
     let a = c.args in
     let f = c.one_field-did in
-    let d = as-listed L.m f.new.m a.buf.now L.out f.new.s.1.1.0 L.at L.put L.j f.result L.invariant.0 f.ensures c.in-Listed.used c.in-Listed.p c.in-Listed.is in
+    let d = as-listed L.m f.new.m a.buf.now L.out f.new.out L.at L.put L.j f.result L.invariant.0 f.ensures c.in-Listed.used c.in-Listed.p c.in-Listed.is in
     omega (arith, d.1.0, d.1.1)
 
 pub loop-out-preserved : goal.loop-out-preserved
@@ -80,13 +80,13 @@ loop-out-preserved c =
     let L = c.loop-out in
     let a = c.args in
     let f = c.one_field-did in
-    let d = as-listed L.m f.new.m a.buf.now L.out f.new.s.1.1.0 L.at L.put L.j f.result L.invariant.0 f.ensures c.in-Listed.used c.in-Listed.p c.in-Listed.is in
-    let ol : length f.new.s.1.1.0 ≡ length L.out = f.auto.s.1.1.0 in
+    let d = as-listed L.m f.new.m a.buf.now L.out f.new.out L.at L.put L.j f.result L.invariant.0 f.ensures c.in-Listed.used c.in-Listed.p c.in-Listed.is in
+    let ol : length f.new.out ≡ length L.out = f.auto.out in
     let one = d.0.1 in
     let line = one.3.0 (omega arith) in
     let ok = c.requires.0 in
-    let next : Taking a.m.now f.new.m a.buf.now f.new.s.1.1.0 a.k (L.at + c.in-Listed.used) c.in-Listed.p (L.j + 1) false =
-    taking-one a.m.now L.m f.new.m a.buf.now L.out f.new.s.1.1.0 a.k L.at L.put L.j c.in-Listed.used c.in-Listed.p _ ok L.invariant.7 one.0 one.1 one.2 line.1.1 in
+    let next : Taking a.m.now f.new.m a.buf.now f.new.out a.k (L.at + c.in-Listed.used) c.in-Listed.p (L.j + 1) false =
+    taking-one a.m.now L.m f.new.m a.buf.now L.out f.new.out a.k L.at L.put L.j c.in-Listed.used c.in-Listed.p _ ok L.invariant.7 one.0 one.1 one.2 line.1.1 in
     (d.1.0, omega (arith, line.0), omega (arith, d.1.1), omega (arith, line.0, d.1.1), ol ∙ L.invariant.4, (played-left (fields_of (take (L.at + c.in-Listed.used) a.buf.now)) a.m.now f.new.m ok next.played).formed, f.auto.m ∙ L.invariant.6, next)
 
 pub returns : goal.returns
