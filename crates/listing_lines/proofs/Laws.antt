@@ -5,6 +5,7 @@ use mathlib.Core.List.{List, [], ◌++◌, append_assoc, append-nil}
 use Prim.Native.Nat.{ℕ, zero, suc, ◌+◌, ◌-◌, ◌*◌, ◌/◌, ◌%◌, ◌^◌, ◌≤◌, ◌<◌}
 use native.Mathlib.Omega.{arith}
 use native.Mathlib.Nat.{not-suc-le-zero, le_of_suc-le-suc, pow-succ', one-le-pow, pow-le-pow_right}
+use borrow.Rule.Slice.PartMut.{post_of, put_mid, drop_put}
 use borrow.Author.Tests.{lt-ltb, le-ltb, le-leb, lt-leb, leb-true, leb-false}
 use lib.Dec.{eqb, leb}
 use lib.ListN.{length, take, drop, length-append, length-drop}
@@ -16,21 +17,12 @@ use Rattle.plain_journal.specs.Listing.{decimal_by, decimal, line_end, ok_text, 
 -- ── pieces ──
 
 -- piece p, copied over what stood behind the first `at` bytes of o
-pub put_is : (o p d m z : List ℕ) (at n : ℕ) → at ≤ length o → n ≡ length p → d ≡ take (length p) p ++ m → take (at + n) (take at o ++ (d ++ z)) ≡ take at o ++ p
-put_is o p d m z at n h e f = rw (f, take-length p, append_assoc p m z, ← append_assoc (take at o) p (m ++ z)) (take_at (take at o ++ p) (m ++ z) (at + n) (length-append (take at o) p ∙ omega (arith, length-take-le at o h)))
+pub put_is : (o p : List ℕ) (at : ℕ) → at + length p ≤ length o → take (at + length p) (put_mid at (at + length p - at) o p) ≡ take at o ++ p
+put_is o p at h = rw (← append_assoc (take at o) p (post_of at (at + length p - at) o)) (take_at (take at o ++ p) _ (at + length p) (length-append (take at o) p ∙ omega (arith, length-take-le at o (omega arith))))
 
 -- what lies behind it is as it was
-pub rest-is : (o p d z : List ℕ) (at n : ℕ) → at + n ≤ length o → n ≡ length p → d ≡ take (length p) p ++ drop (length p) (take (length o - at) (drop at o)) → z ≡ drop (length o - at) (drop at o)
-    → drop (at + n) (take at o ++ (d ++ z)) ≡ drop (at + n) o
-rest-is o p d z at n h e f g =
-    let all : take (length o - at) (drop at o) ≡ drop at o = take_all (length o - at) (drop at o) (omega (arith, length-drop at o)) in
-    let none : drop (length o - at) (drop at o) ≡ [] = ap (λ (k : ℕ). drop k (drop at o)) (sym (length-drop at o)) ∙ drop-length (drop at o) in
-    let d-is : d ≡ p ++ drop n (drop at o) = f ∙ ap (λ (l : List ℕ). l ++ drop (length p) (take (length o - at) (drop at o))) (take-length p) ∙ ap (λ (l : List ℕ). p ++ drop (length p) l) all ∙ ap (λ (k : ℕ). p ++ drop k (drop at o)) (sym e) in
-    ap (λ (l : List ℕ). drop (at + n) (take at o ++ (d ++ l))) (g ∙ none)
-    ∙ ap (λ (l : List ℕ). drop (at + n) (take at o ++ l)) (append-nil d ∙ d-is)
-    ∙ ap (drop (at + n)) (sym (append_assoc (take at o) p (drop n (drop at o))))
-    ∙ drop_at (take at o ++ p) (drop n (drop at o)) (at + n) (length-append (take at o) p ∙ omega (arith, length-take-le at o (omega arith)))
-    ∙ drop-drop n at o
+pub rest-is : (o p : List ℕ) (at : ℕ) → at + length p ≤ length o → drop (at + length p) (put_mid at (at + length p - at) o p) ≡ drop (at + length p) o
+rest-is o p at h = drop_put at (at + length p) o p (omega arith) h (omega arith)
 
 -- two pieces laid one behind the other
 pub then-laid : (o o₁ o₂ p q : List ℕ) (at a b : ℕ) → Laid at p o a o₁ → Laid a q o₁ b o₂ → Laid at (p ++ q) o b o₂

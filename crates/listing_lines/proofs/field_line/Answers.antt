@@ -17,6 +17,6 @@ returns c =
     let code = cond (eqb a.code 0) ok_text (refused_text ++ decimal a.code) in (
       search rules,
       rw field_is
-          (then-laid o d.new.0 e.new.0 (decimal a.k) (code ++ line_end) a.at d.result e.result d.ensures.1
-          (then-laid d.new.0 q.new.0 e.new.0 code line_end d.result q.result e.result q.ensures.1 e.ensures)),
+          (then-laid o d.new.out e.new.out (decimal a.k) (code ++ line_end) a.at d.result e.result d.ensures.1
+          (then-laid d.new.out q.new.out e.new.out code line_end d.result q.result e.result q.ensures.1 e.ensures)),
     )

@@ -14,6 +14,6 @@ returns c =
     let h = place_text ++ decimal a.place in
     let l = line_text ++ decimal a.line in
     let e = c.put in
-    let e3 = then-laid q.new.0 s.new.0 e.new.0 l line_end q.result s.result e.result s.ensures.1 e.ensures in
-    let e2 = then-laid p.new.0 q.new.0 e.new.0 h (l ++ line_end) p.result q.result e.result q.ensures.1 e3 in
-    (search rules, rw mark-is (then-laid a.out.now p.new.0 e.new.0 (mark_text ++ decimal a.k) (h ++ (l ++ line_end)) a.at p.result e.result p.ensures.1 e2))
+    let e3 = then-laid q.new.out s.new.out e.new.out l line_end q.result s.result e.result s.ensures.1 e.ensures in
+    let e2 = then-laid p.new.out q.new.out e.new.out h (l ++ line_end) p.result q.result e.result q.ensures.1 e3 in
+    (search rules, rw mark-is (then-laid a.out.now p.new.out e.new.out (mark_text ++ decimal a.k) (h ++ (l ++ line_end)) a.at p.result e.result p.ensures.1 e2))

@@ -9,4 +9,4 @@ returns c =
     let a = c.args in
     let p = c.put-a in
     let q = c.put_decimal in
-    (search rules, then-laid a.out.now p.new.0 q.new.0 a.word.now (decimal a.n) a.at p.result q.result p.ensures q.ensures.1)
+    (search rules, then-laid a.out.now p.new.out q.new.out a.word.now (decimal a.n) a.at p.result q.result p.ensures q.ensures.1)

@@ -10,7 +10,7 @@ use Rattle.listing_lines.proofs.put_decimal.Goals as goal
 pub put-requires : goal.put-requires
 put-requires c =
     let d = c.decimal-k in
-    omega (arith, d.ensures.0.1, places-le d.result c.args.n c.ranges.n.fits d.ensures.1.0)
+    omega (arith, d.ensures.in_bounds.1, places-le d.result c.args.n c.ranges.n.fits d.ensures.len)
 
 pub returns : goal.returns
 returns c =
@@ -18,7 +18,7 @@ returns c =
     let p = c.put in
     let a = c.args in
     let fits = c.ranges.n.fits in
-    let few = d.ensures.1.0 in (
-      omega (arith, p.ensures.0, d.ensures.0.1, places-le d.result a.n fits few),
-      subst (λ (l : List ℕ). Laid a.at l a.out.now p.result p.new.0) (d.ensures.1.1 ∙ decimal-is d.result a.n fits few) p.ensures,
+    let few = d.ensures.len in (
+      omega (arith, p.ensures.0, d.ensures.in_bounds.1, places-le d.result a.n fits few),
+      subst (λ (l : List ℕ). Laid a.at l a.out.now p.result p.new.out) (d.ensures.digits ∙ decimal-is d.result a.n fits few) p.ensures,
     )

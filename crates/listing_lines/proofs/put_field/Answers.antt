@@ -20,4 +20,4 @@ pub returns : goal.returns
 returns c =
     let a = c.args in
     let w = c.field_line in
-    with-room 50 a.at (field_line a.k a.code) a.out.now w.result w.new.0 (sym c.has_room.ensures ∙ not-false _ c.if-not-has_room.false-raw) w.ensures
+    with-room 50 a.at (field_line a.k a.code) a.out.now w.result w.new.out (sym c.has_room.ensures ∙ not-false _ c.if-not-has_room.false-raw) w.ensures

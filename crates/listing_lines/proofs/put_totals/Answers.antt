@@ -20,4 +20,4 @@ pub returns : goal.returns
 returns c =
     let a = c.args in
     let w = c.totals_line in
-    with-room 110 a.at (totals_line a.bytes a.chars a.utf16 a.lines) a.out.now w.result w.new.0 (sym c.has_room.ensures ∙ not-false _ c.if-not-has_room.false-raw) w.ensures
+    with-room 110 a.at (totals_line a.bytes a.chars a.utf16 a.lines) a.out.now w.result w.new.out (sym c.has_room.ensures ∙ not-false _ c.if-not-has_room.false-raw) w.ensures

@@ -17,7 +17,7 @@ returns c =
     let u = units_text ++ decimal a.utf16 in
     let l = lines_text ++ decimal a.lines in
     let e = c.put in
-    let e4 = then-laid s.new.0 t.new.0 e.new.0 l line_end s.result t.result e.result t.ensures.1 e.ensures in
-    let e3 = then-laid q.new.0 s.new.0 e.new.0 u (l ++ line_end) q.result s.result e.result s.ensures.1 e4 in
-    let e2 = then-laid p.new.0 q.new.0 e.new.0 h (u ++ (l ++ line_end)) p.result q.result e.result q.ensures.1 e3 in
-    (search rules, rw totals-is (then-laid a.out.now p.new.0 e.new.0 b (h ++ (u ++ (l ++ line_end))) a.at p.result e.result p.ensures.1 e2))
+    let e4 = then-laid s.new.out t.new.out e.new.out l line_end s.result t.result e.result t.ensures.1 e.ensures in
+    let e3 = then-laid q.new.out s.new.out e.new.out u (l ++ line_end) q.result s.result e.result s.ensures.1 e4 in
+    let e2 = then-laid p.new.out q.new.out e.new.out h (u ++ (l ++ line_end)) p.result q.result e.result q.ensures.1 e3 in
+    (search rules, rw totals-is (then-laid a.out.now p.new.out e.new.out b (h ++ (u ++ (l ++ line_end))) a.at p.result e.result p.ensures.1 e2))
