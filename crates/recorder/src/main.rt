@@ -9,8 +9,8 @@ ghost use Rattle.recorder.specs.Program.{Running, Reads, Pumps, Ended};
 
 use answer::Verdict;
 use journal::{SLOTS, State, Turned};
-use libc::{STDERR_FILENO, STDIN_FILENO, STDOUT_FILENO};
 use pool::{HEAD_BYTES, SLOT_BYTES};
+use std::io::{Read, Write};
 
 // Why the program cannot go on: the memory is too short, the fields have no more numbers, the journal cannot be read, or the listing cannot be written.
 #[derive(Clone, Copy)]
@@ -46,16 +46,15 @@ fn memory() -> [u8; MEMORY]
 }
 
 // Reads once, behind what the buffer holds. A read that gives nothing is the input's end.
-fn read_more(buf: &mut [u8], st: State) -> Pumped
+fn read_more<R: Read>(input: &mut R, buf: &mut [u8], st: State) -> Pumped
     requires { st.fill < length buf.old }
     ensures { Reads buf.old buf.new st result }
 {
     let fill = st.fill;
-    let got = libc::read(STDIN_FILENO, &mut buf[fill..]);
-    if got < 0 {
+    let got = input.read(&mut buf[fill..]);
+    let Ok(n) = got else {
         return Pumped::Failed(Fault::Read);
-    }
-    let n = io::count(got, &buf[fill..]);
+    };
     Pumped::On(State {
         fill: fill + n,
         k: st.k,
@@ -66,7 +65,14 @@ fn read_more(buf: &mut [u8], st: State) -> Pumped
 }
 
 // One turn: what it put is written, and where it used nothing more is read.
-fn pump(m: &mut [u8], buf: &mut [u8], st: State, out: &mut [u8]) -> Pumped
+fn pump<R: Read, W: Write>(
+    input: &mut R,
+    output: &mut W,
+    m: &mut [u8],
+    buf: &mut [u8],
+    st: State,
+    out: &mut [u8],
+) -> Pumped
     requires { ((n : ℕ) × Running m.old buf.old st n) × (st.over ≡ false) × (65538 ≤ length buf.old) × (20690 ≤ length out.old) }
     ensures { Pumps m.old m.new buf.old buf.new st result }
 {
@@ -76,7 +82,8 @@ fn pump(m: &mut [u8], buf: &mut [u8], st: State, out: &mut [u8]) -> Pumped
         return Pumped::Failed(Fault::Fields);
     };
     let put = r.put;
-    if !io::write_all(STDOUT_FILENO, &out[..put]) {
+    let wrote = output.write_all(&out[..put]);
+    if wrote.is_err() {
         return Pumped::Failed(Fault::Write);
     }
     if r.over {
@@ -85,11 +92,17 @@ fn pump(m: &mut [u8], buf: &mut [u8], st: State, out: &mut [u8]) -> Pumped
     if r.fill < fill {
         return Pumped::On(r);
     }
-    read_more(buf, r)
+    read_more(input, buf, r)
 }
 
 // A proved loop has to end, and nothing says that the input does: the turns are counted down from a number that no run uses up.
-fn run(m: &mut [u8], buf: &mut [u8], out: &mut [u8]) -> Ran
+fn run<R: Read, W: Write>(
+    input: &mut R,
+    output: &mut W,
+    m: &mut [u8],
+    buf: &mut [u8],
+    out: &mut [u8],
+) -> Ran
     requires { (need slots ≤ length m.old) × (65538 ≤ length buf.old) × (20690 ≤ length out.old) }
     ensures { Ended m.new buf.new result }
 {
@@ -100,7 +113,7 @@ fn run(m: &mut [u8], buf: &mut [u8], out: &mut [u8]) -> Ran
     let mut st = journal::started();
     let mut turns = u64::MAX;
     while turns > 0 && !st.over {
-        let pumped = pump(m, buf, st, out);
+        let pumped = pump(input, output, m, buf, st, out);
         match pumped {
             Pumped::On(next) => {
                 st = next;
@@ -112,27 +125,31 @@ fn run(m: &mut [u8], buf: &mut [u8], out: &mut [u8]) -> Ran
     if st.over { Ran::Over } else { Ran::Long }
 }
 
-fn tell(text: &[u8]) {
-    io::write_all(STDERR_FILENO, text);
+// A message that cannot be written is let go.
+fn tell<W: Write>(errors: &mut W, text: &[u8]) {
+    let _told = errors.write_all(text);
 }
 
-fn tell_fault(why: Fault) {
+fn tell_fault<W: Write>(errors: &mut W, why: Fault) {
     match why {
-        Fault::Memory => tell(b"recorder: the memory is too short\n"),
-        Fault::Fields => tell(b"recorder: the journal has too many fields\n"),
-        Fault::Read => tell(b"recorder: the journal cannot be read\n"),
-        Fault::Write => tell(b"recorder: the listing cannot be written\n"),
+        Fault::Memory => tell(errors, b"recorder: the memory is too short\n"),
+        Fault::Fields => tell(errors, b"recorder: the journal has too many fields\n"),
+        Fault::Read => tell(errors, b"recorder: the journal cannot be read\n"),
+        Fault::Write => tell(errors, b"recorder: the listing cannot be written\n"),
     }
 }
 
-fn main() {
+fn main(rt: HostRuntime) {
+    let mut input = rt.stdin();
+    let mut output = rt.stdout();
+    let mut errors = rt.stderr();
     let mut space = memory();
     let mut buf = [0u8; 131072];
     let mut out = [0u8; 65536];
-    let ran = run(&mut space, &mut buf, &mut out);
+    let ran = run(&mut input, &mut output, &mut space, &mut buf, &mut out);
     match ran {
         Ran::Over => {}
-        Ran::Failed(why) => tell_fault(why),
-        Ran::Long => tell(b"recorder: the journal has too many fields\n"),
+        Ran::Failed(why) => tell_fault(&mut errors, why),
+        Ran::Long => tell(&mut errors, b"recorder: the journal has too many fields\n"),
     }
 }
