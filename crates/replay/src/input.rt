@@ -9,7 +9,7 @@ ghost use Rattle.replay.specs.Turns.{Known, Judged};
 
 use crate::given::{Given, of_number, same};
 use crate::leaves;
-use libc::STDIN_FILENO;
+use std::io::Read;
 
 // What a record asks for: a call of the text layer by its number.
 #[derive(Clone, Copy)]
@@ -82,40 +82,39 @@ fn judge(c: Call, text: &[u8], was: Given) -> Turn
 }
 
 // The rest of a record, whose text has n bytes.
-fn read_body(c: Call, n: usize) -> Turn
+fn read_body<R: Read>(input: &mut R, c: Call, n: usize) -> Turn
     ensures { Known result }
 {
     if 4096 < n {
         return Turn::Bad;
     }
-    let mut text = io::buffer();
-    if io::read_full(STDIN_FILENO, &mut text[..n]) != n {
+    let mut text = [0u8; 4096];
+    if input.read_exact(&mut text[..n]).is_err() {
         return Turn::Bad;
     }
     let mut tail = [0u8; 5];
-    if io::read_full(STDIN_FILENO, &mut tail) != 5 {
+    if input.read_exact(&mut tail).is_err() {
         return Turn::Bad;
     }
     let was = recorded(&tail);
     judge(c, &text[..n], was)
 }
 
-// Reads one record and asks for our answer.
-pub(crate) fn next() -> Turn
+// Reads one record and asks for our answer. The input ends where a read gives nothing in front of a record.
+pub(crate) fn next<R: Read>(input: &mut R) -> Turn
     ensures { Known result }
 {
     let mut head = [0u8; 8];
-    let got = io::read_full(STDIN_FILENO, &mut head);
-    if got == 0 {
+    let Ok(1) = input.read(&mut head[..1]) else {
         return Turn::End;
-    }
-    if got != 8 {
+    };
+    if input.read_exact(&mut head[1..]).is_err() {
         return Turn::Bad;
     }
     if 21 < head[0] {
-        return leaves::read(head[0] - 21, &head);
+        return leaves::read(input, head[0] - 21, &head);
     }
     let c = call_of(&head);
     let n = two(head[6], head[7]);
-    read_body(c, n)
+    read_body(input, c, n)
 }

@@ -10,7 +10,7 @@ ghost use Rattle.replay.specs.Turns.{Known};
 use crate::given::Given;
 use crate::input::{Turn, two};
 use answer::Sides;
-use libc::STDIN_FILENO;
+use std::io::Read;
 
 // What a record asks for: a leaf's call by its number.
 #[derive(Clone, Copy)]
@@ -80,20 +80,25 @@ fn same_leaves(left: &[u8], right: &[u8], refusal: u8, was_left: &[u8], was_righ
 }
 
 // Reads a leaf into a region: as much of it as the region has. Whether that was there.
-fn read_leaf(region: &mut [u8], len: usize) -> bool {
-    let most = region.len();
-    if len < most {
-        return io::read_full(STDIN_FILENO, &mut region[..len]) == len;
+fn read_leaf<R: Read>(input: &mut R, region: &mut [u8], len: usize) -> bool {
+    if len < region.len() {
+        return input.read_exact(&mut region[..len]).is_ok();
     }
-    io::read_full(STDIN_FILENO, region) == most
+    input.read_exact(region).is_ok()
 }
 
 // The tail of a record.
-fn read_tail(q: Question, left: &mut [u8], piece: &[u8], right: &mut [u8]) -> Turn
+fn read_tail<R: Read>(
+    input: &mut R,
+    q: Question,
+    left: &mut [u8],
+    piece: &[u8],
+    right: &mut [u8],
+) -> Turn
     ensures { Known result }
 {
     let mut tail = [0u8; 5];
-    if io::read_full(STDIN_FILENO, &mut tail) != 5 {
+    if input.read_exact(&mut tail).is_err() {
         return Turn::Bad;
     }
     let l = two(tail[1], tail[2]);
@@ -106,10 +111,10 @@ fn read_tail(q: Question, left: &mut [u8], piece: &[u8], right: &mut [u8]) -> Tu
     }
     let mut was_left = [0u8; 512];
     let mut was_right = [0u8; 512];
-    if !read_leaf(&mut was_left, l) {
+    if !read_leaf(input, &mut was_left, l) {
         return Turn::Bad;
     }
-    if !read_leaf(&mut was_right, r) {
+    if !read_leaf(input, &mut was_right, r) {
         return Turn::Bad;
     }
     judge(
@@ -124,30 +129,30 @@ fn read_tail(q: Question, left: &mut [u8], piece: &[u8], right: &mut [u8]) -> Tu
 }
 
 // The record of the call with a number, from behind its head on.
-pub(crate) fn read(call: u8, head: &[u8; 8]) -> Turn
+pub(crate) fn read<R: Read>(input: &mut R, call: u8, head: &[u8; 8]) -> Turn
     ensures { Known result }
 {
     let len = two(head[6], head[7]);
     let mut left = [0u8; 512];
-    if !read_leaf(&mut left, len) {
+    if !read_leaf(input, &mut left, len) {
         return Turn::Bad;
     }
     let mut size = [0u8; 2];
-    if io::read_full(STDIN_FILENO, &mut size) != 2 {
+    if input.read_exact(&mut size).is_err() {
         return Turn::Bad;
     }
     let n = two(size[0], size[1]);
     let right_len = if call == 10 { n } else { 0 };
     let mut right = [0u8; 512];
-    if !read_leaf(&mut right, right_len) {
+    if !read_leaf(input, &mut right, right_len) {
         return Turn::Bad;
     }
     let m = if call == 10 { 0 } else { n };
     if 4096 < m {
         return Turn::Bad;
     }
-    let mut piece = io::buffer();
-    if io::read_full(STDIN_FILENO, &mut piece[..m]) != m {
+    let mut piece = [0u8; 4096];
+    if input.read_exact(&mut piece[..m]).is_err() {
         return Turn::Bad;
     }
     let q = Question {
@@ -157,5 +162,5 @@ pub(crate) fn read(call: u8, head: &[u8; 8]) -> Turn
         end: two(head[3], head[4]),
         right_len,
     };
-    read_tail(q, &mut left, &piece[..m], &mut right)
+    read_tail(input, q, &mut left, &piece[..m], &mut right)
 }

@@ -12,6 +12,7 @@ ghost use Rattle.std.specs.Prelude.{◌≡◌, ◌<◌, length};
 ghost use Rattle.replay.specs.Turns.{sum, Counted, Sums, Adds};
 
 use input::Turn;
+use std::io::Read;
 
 // How a run ended: how many records there were and how many differ, or the place, from 1, of what is no record.
 #[derive(Clone, Copy)]
@@ -30,14 +31,19 @@ fn count(counts: &mut [u32; 32], f: usize)
 
 // Counts the cases and those that differ. A proved loop has to end, and nothing says that the input does, so it takes no more records
 // than a u32 counts.
-fn run(cases: &mut [u32; 32], differ: &mut [u32; 32]) -> Ran
+fn run<R: Read>(
+    input: &mut R,
+    rt: &impl Print,
+    cases: &mut [u32; 32],
+    differ: &mut [u32; 32],
+) -> Ran
     requires { Sums cases.old 0 × Sums differ.old 0 }
     ensures { Adds cases.new differ.new result }
 {
     let mut k: u32 = 0;
     let mut missed: u32 = 0;
     while k < u32::MAX {
-        let t = input::next();
+        let t = input::next(input);
         match t {
             Turn::End => {
                 return Ran::Whole { records: k, missed };
@@ -54,7 +60,7 @@ fn run(cases: &mut [u32; 32], differ: &mut [u32; 32]) -> Ran
                 if !is_same {
                     count(differ, function);
                     if missed == 0 {
-                        report::write_first(k + 1, function, given);
+                        report::write_first(rt, k + 1, function, given);
                     }
                     missed += 1;
                 }
@@ -65,16 +71,17 @@ fn run(cases: &mut [u32; 32], differ: &mut [u32; 32]) -> Ran
     Ran::Whole { records: k, missed }
 }
 
-fn main() {
+fn main(rt: HostRuntime) {
+    let mut input = rt.stdin();
     let mut cases = [0u32; 32];
     let mut differ = [0u32; 32];
-    let ran = run(&mut cases, &mut differ);
+    let ran = run(&mut input, &rt, &mut cases, &mut differ);
     match ran {
-        Ran::Bad(k) => report::write_bad(k),
+        Ran::Bad(k) => report::write_bad(&rt, k),
         Ran::Whole { records, missed } => {
-            report::write_functions(&cases, &differ);
-            report::write(b"replayed");
-            report::write_counts(records, missed);
+            report::write_functions(&rt, &cases, &differ);
+            report::write(&rt, b"replayed");
+            report::write_counts(&rt, records, missed);
         }
     }
 }

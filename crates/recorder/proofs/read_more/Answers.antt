@@ -1,23 +1,19 @@
-use mathlib.Core.Path.{◌≡◌, refl}
+-- `recorder::read_more` meets its contract: what the read gave lies behind what the buffer held.
+use mathlib.Core.Path.{◌≡◌, ◌∙◌}
 use Prim.Native.Nat.{◌-◌}
 use native.Mathlib.Omega.{arith}
-use borrow.Rule.Slice.PartMut.{put_mid, same_len_mid, take_put}
-use lib.ListN.{length, take}
+use borrow.Rule.Slice.PartMut.{mid_len, put_mid, same_len_mid, take_put}
+use lib.ListN.{length}
 use Rattle.recorder.proofs.Laws.{read_is}
-use borrow.Author.Rules.{rules}
 use Rattle.recorder.proofs.read_more.Goals as goal
 
-pub returns-then-got-lt0 : goal.returns-then-got-lt0
-returns-then-got-lt0 c = refl
-
 pub returns : goal.returns
-returns c =
+returns g c =
     let a = c.args in
     let b = a.buf.now in
     let fill = a.st.fill in
-    let n = c.count-n.result in
-    let x = c.read-got.new.1.0 in
-    let b' = put_mid fill (length b - fill) b x in
-    let same : length b' ≡ length b = same_len_mid fill (length b - fill) b x c.read-got.auto.1.0 in
-    let front : take fill b' ≡ take fill b = take_put fill (length b - fill) b x (omega arith) in
-    (omega arith, search rules, front, read_is a.st fill n)
+    let n = c.in-Ok.n in
+    let x = c.read-got.new.buf in
+    let few : length x ≡ length b - fill = c.read-got.auto.buf ∙ mid_len fill (length b) b (omega arith) in
+    let same : length (put_mid fill (length b - fill) b x) ≡ length b = same_len_mid fill (length b - fill) b x c.read-got.auto.buf in
+    (omega arith, omega (arith, same, few, c.in-Ok.ensures.bound.0), take_put fill (length b - fill) b x (omega arith), read_is a.st fill n)
