@@ -4,8 +4,8 @@
 // behind its number. Numbers of several bytes have the most significant first.
 use crate::judge::{Five, Question, judge};
 use crate::memory::{put, read_changes, read_slots, room, two};
-use libc::STDIN_FILENO;
 use pool::{HEAD_BYTES, Kid, SLOT_BYTES};
+use std::io::Read;
 use text_info::TextInfo;
 
 // What reading finds: a record, its call and whether our outcome is the recorded one; the end; or what is no record.
@@ -55,15 +55,15 @@ fn recorded(tail: &[u8; 22]) -> Five {
 }
 
 // The tail of a record, and the judgement. The memory afterwards is a copy of that before, with the changed slots laid in.
-fn read_tail(q: Question, m: &mut [u8], after: &mut [u8]) -> Turn {
+fn read_tail<R: Read>(input: &mut R, q: Question, m: &mut [u8], after: &mut [u8]) -> Turn {
     if !put(after, 0, m) {
         return Turn::Bad;
     }
     let mut tail = [0u8; 22];
-    if io::read_full(STDIN_FILENO, &mut tail) != 22 {
+    if input.read_exact(&mut tail).is_err() {
         return Turn::Bad;
     }
-    if !read_changes(after, tail[21]) {
+    if !read_changes(input, after, tail[21]) {
         return Turn::Bad;
     }
     let was = recorded(&tail);
@@ -74,8 +74,8 @@ fn read_tail(q: Question, m: &mut [u8], after: &mut [u8]) -> Turn {
 }
 
 // A record from behind its head on: n slots of a memory.
-fn read_memory(q: Question, n: u8, m: &mut [u8]) -> Turn {
-    if !read_slots(m, n) {
+fn read_memory<R: Read>(input: &mut R, q: Question, n: u8, m: &mut [u8]) -> Turn {
+    if !read_slots(input, m, n) {
         return Turn::Bad;
     }
     let size = m.len();
@@ -83,17 +83,16 @@ fn read_memory(q: Question, n: u8, m: &mut [u8]) -> Turn {
         return Turn::Bad;
     }
     let mut after = room();
-    read_tail(q, m, &mut after[..size])
+    read_tail(input, q, m, &mut after[..size])
 }
 
-// Reads one record and judges it.
-pub(crate) fn next() -> Turn {
+// Reads one record and judges it. The input ends where a read gives nothing in front of a record.
+pub(crate) fn next<R: Read>(input: &mut R) -> Turn {
     let mut head = [0u8; 28];
-    let got = io::read_full(STDIN_FILENO, &mut head);
-    if got == 0 {
+    let Ok(1) = input.read(&mut head[..1]) else {
         return Turn::End;
-    }
-    if got != 28 {
+    };
+    if input.read_exact(&mut head[1..]).is_err() {
         return Turn::Bad;
     }
     let n = head[7];
@@ -102,5 +101,5 @@ pub(crate) fn next() -> Turn {
     }
     let mut memory = room();
     let size = HEAD_BYTES + SLOT_BYTES * (n as usize);
-    read_memory(question_of(&head), n, &mut memory[..size])
+    read_memory(input, question_of(&head), n, &mut memory[..size])
 }

@@ -9,6 +9,7 @@ mod memory;
 mod report;
 
 use input::Turn;
+use std::io::Read;
 
 // How a run ended: how many records there were and how many differ, or the place, from 1, of what is no record.
 #[derive(Clone, Copy)]
@@ -19,11 +20,11 @@ enum Ran {
 
 // Counts the cases and those that differ. A proved loop has to end, and nothing says that the input does, so it takes no more records
 // than a u32 counts.
-fn run() -> Ran {
+fn run<R: Read>(input: &mut R, rt: &impl Print) -> Ran {
     let mut k: u32 = 0;
     let mut missed: u32 = 0;
     while k < u32::MAX {
-        let t = input::next();
+        let t = input::next(input);
         match t {
             Turn::End => {
                 return Ran::Whole { records: k, missed };
@@ -34,7 +35,7 @@ fn run() -> Ran {
             Turn::Case { call, is_same } => {
                 if !is_same {
                     if missed == 0 {
-                        report::write_first(k + 1, call);
+                        report::write_first(rt, k + 1, call);
                     }
                     missed += 1;
                 }
@@ -45,9 +46,10 @@ fn run() -> Ran {
     Ran::Whole { records: k, missed }
 }
 
-fn main() {
-    match run() {
-        Ran::Bad(k) => report::write_bad(k),
-        Ran::Whole { records, missed } => report::write_counts(records, missed),
+fn main(rt: HostRuntime) {
+    let mut input = rt.stdin();
+    match run(&mut input, &rt) {
+        Ran::Bad(k) => report::write_bad(&rt, k),
+        Ran::Whole { records, missed } => report::write_counts(&rt, records, missed),
     }
 }

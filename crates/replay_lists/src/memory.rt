@@ -2,8 +2,8 @@
 // rest of the memory is zeros.
 ghost use Rattle.std.specs.Prelude.{◌≡◌, length};
 
-use libc::STDIN_FILENO;
 use pool::{HEAD_BYTES, REGION_AT, SLOT_BYTES};
+use std::io::Read;
 
 // The zeros of the longest memory, which has 7 slots. The `ensures` gives only the length, which lending a part of it needs.
 pub(crate) fn room() -> [u8; 10624]
@@ -33,11 +33,11 @@ pub(crate) fn put(m: &mut [u8], at: usize, bytes: &[u8]) -> bool {
 }
 
 // Reads the front of a region. Whether that was there.
-fn read_region(region: &mut [u8], n: usize) -> bool {
+fn read_region<R: Read>(input: &mut R, region: &mut [u8], n: usize) -> bool {
     if region.len() < n {
         return false;
     }
-    io::read_full(STDIN_FILENO, &mut region[..n]) == n
+    input.read_exact(&mut region[..n]).is_ok()
 }
 
 // Lays a slot's head and region into a memory. Whether they fit there.
@@ -50,28 +50,28 @@ fn put_slot(m: &mut [u8], slot: u8, head: &[u8], region: &[u8]) -> bool {
 }
 
 // Reads a slot of a memory. Whether it was there.
-fn read_slot(m: &mut [u8], slot: u8) -> bool {
+fn read_slot<R: Read>(input: &mut R, m: &mut [u8], slot: u8) -> bool {
     let mut head = [0u8; 8];
-    if io::read_full(STDIN_FILENO, &mut head) != 8 {
+    if input.read_exact(&mut head).is_err() {
         return false;
     }
     let mut size = [0u8; 2];
-    if io::read_full(STDIN_FILENO, &mut size) != 2 {
+    if input.read_exact(&mut size).is_err() {
         return false;
     }
     let n = two(size[0], size[1]);
     let mut region = [0u8; 512];
-    if !read_region(&mut region, n) {
+    if !read_region(input, &mut region, n) {
         return false;
     }
     put_slot(m, slot, &head, &region)
 }
 
 // Reads the first n slots of a memory. Whether they were there.
-pub(crate) fn read_slots(m: &mut [u8], n: u8) -> bool {
+pub(crate) fn read_slots<R: Read>(input: &mut R, m: &mut [u8], n: u8) -> bool {
     let mut k: u8 = 0;
     while k < n {
-        if !read_slot(m, k) {
+        if !read_slot(input, m, k) {
             return false;
         }
         k += 1;
@@ -80,19 +80,19 @@ pub(crate) fn read_slots(m: &mut [u8], n: u8) -> bool {
 }
 
 // Reads a slot behind its number.
-fn read_change(m: &mut [u8]) -> bool {
+fn read_change<R: Read>(input: &mut R, m: &mut [u8]) -> bool {
     let mut slot = [0u8; 1];
-    if io::read_full(STDIN_FILENO, &mut slot) != 1 {
+    if input.read_exact(&mut slot).is_err() {
         return false;
     }
-    read_slot(m, slot[0])
+    read_slot(input, m, slot[0])
 }
 
 // Reads n slots, each behind its number. Whether they were there.
-pub(crate) fn read_changes(m: &mut [u8], n: u8) -> bool {
+pub(crate) fn read_changes<R: Read>(input: &mut R, m: &mut [u8], n: u8) -> bool {
     let mut k: u8 = 0;
     while k < n {
-        if !read_change(m) {
+        if !read_change(input, m) {
             return false;
         }
         k += 1;
