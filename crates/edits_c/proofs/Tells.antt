@@ -7,8 +7,8 @@ use Rattle.plain.specs.Outcome.{Outcome, kept}
 use Rattle.plain_note.specs.Note.{Note}
 use Rattle.memory.specs.Formed.{of_note}
 use Rattle.note_promise.specs.Called.{EditCalled, MarkCalled}
-use Rattle.note_c.specs.Told.{code}
-use Rattle.note_c.proofs.Laws.{mapped-code}
+use Rattle.told.specs.Told.{code}
+use Rattle.told.proofs.Laws.{mapped-code}
 use Rattle.edits_c.specs.Told.{answer_of, Told, EditTold, MarkTold}
 
 module _ {A : Type 0} (o : Note → Outcome (A × Note)) (m : List ℕ) (said : Outcome A) (e : said ≡ answer_of o m) where

@@ -4,7 +4,7 @@ use Rattle.plain.specs.Outcome.{Outcome, mapped, kept}
 use Rattle.plain_note.specs.Note.{Note}
 use Rattle.memory.specs.Formed.{of_note}
 use Rattle.note_promise.specs.Called.{EditCalled, MarkCalled}
-use Rattle.note_c.specs.Told.{code}
+use Rattle.told.specs.Told.{code}
 
 -- what the call answers
 abbrev pub answer_of : {A : Type 0} → (Note → Outcome (A × Note)) → List ℕ → Outcome A

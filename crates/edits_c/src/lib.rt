@@ -8,11 +8,11 @@ ghost use Rattle.answer.specs.Answers.{change};
 ghost use Rattle.note_head.specs.Writes.{live_put};
 ghost use Rattle.marks.specs.MarkBytes.{mark_put};
 ghost use Rattle.memory.specs.Formed.{of_note};
-ghost use Rattle.note_c.specs.Told.{code};
+ghost use Rattle.told.specs.Told.{code};
 ghost use Rattle.edits_c.specs.Told.{Told, EditTold, MarkTold};
 
 use answer::Change;
-use note_c::{code_of, tell};
+use told::{code_of, tell};
 
 // Writes the change through `out`; a refusal writes nothing.
 fn tell_change(a: Change, out: &mut i64) -> u8

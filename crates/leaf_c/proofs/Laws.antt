@@ -16,7 +16,7 @@ use Rattle.text_info.specs.declared.TextInfo.{TextInfo}
 use Rattle.text_info.specs.declared.TextSum.{TextSum}
 use Rattle.text_info.specs.declared.Info.{Info}
 use Rattle.text_info.specs.declared.Info.TheVariants as Info·case
-use Rattle.text_c.specs.Told.{code}
+use Rattle.told.specs.Told.{code}
 use Rattle.leaf_c.specs.Told.{LeavesTold, InfoTold, SumTold}
 
 module _ (o : Outcome (List ℕ × List ℕ)) (left right : List ℕ) (x y : ℕ) {s : Sides} {left-after right-after : List ℕ} where

@@ -5,7 +5,7 @@ use Rattle.leaf_bytes.specs.Leaf.{written}
 use Rattle.text_info.specs.Info.{Summed}
 use Rattle.text_info.specs.declared.TextInfo.{TextInfo}
 use Rattle.text_info.specs.declared.TextSum.{TextSum}
-use Rattle.text_c.specs.Told.{code}
+use Rattle.told.specs.Told.{code}
 
 -- two leaves: their lengths, and what is left of the two regions
 pub record LeavesTold (o : Outcome (List ℕ × List ℕ)) (left right : List ℕ) (x y r : ℕ) (left-after right-after : List ℕ) (x-after y-after : ℕ) : Type 0 where

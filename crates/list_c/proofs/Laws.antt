@@ -6,7 +6,7 @@ use native.Mathlib.Omega.{arith}
 use Rattle.plain.specs.Outcome.{Outcome, Outcome.value, Outcome.refused, kept, mapped}
 use Rattle.answer.specs.Answers.{refusal_number}
 use Rattle.answer.specs.declared.Refusal.{Refusal}
-use Rattle.text_c.specs.Told.{code}
+use Rattle.told.specs.Told.{code}
 use Rattle.list_calls.specs.declared.Reply.{Reply}
 use Rattle.list_calls.specs.declared.Reply.TheVariants as Reply·case
 use Rattle.list_calls.specs.Asked.{Five, reply, Replied}

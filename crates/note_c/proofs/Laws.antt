@@ -1,5 +1,5 @@
 -- What C is told, from what the calls answer.
-use mathlib.Core.Path.{◌≡◌, refl, ap, subst, ◌∙◌}
+use mathlib.Core.Path.{◌≡◌, refl, ap, ◌∙◌}
 use mathlib.Core.List.{List}
 use Prim.Native.Nat.{ℕ}
 use lib.ListN.{length}
@@ -10,17 +10,9 @@ use Rattle.leaf_bytes.specs.Leaf.{Leaf}
 use Rattle.plain_note.specs.Note.{read_from, previewed}
 use Rattle.memory.specs.Formed.{of_note}
 use Rattle.runs.specs.Runs.{run_of, preview_of}
-use Rattle.note_c.specs.Told.{code, Told, Copied}
-
--- what was told of an answer is told of what the answer says
-pub told : (said o : Outcome ℕ) (out after r : ℕ) → said ≡ o → Told said out r after → Told o out r after
-told said o out after r e t = subst (λ (x : Outcome ℕ). Told x out r after) e t
-
--- a value that is read otherwise has the same code
-pub mapped-code : {A B : Type 0} (f : A → B) (o : Outcome A) → code (mapped f o) ≡ code o
-unfolding code
-mapped-code f (value a) = refl
-mapped-code f (refused n) = refl
+use Rattle.told.specs.Told.{code, Told}
+use Rattle.told.proofs.Laws.{mapped-code}
+use Rattle.note_c.specs.Told.{Copied}
 
 -- bytes that were copied
 pub copied-told : (o : Outcome (List ℕ)) (out after : List ℕ) (x y r : ℕ) (a : Number) → Leaf o out a after → Told (number a) x r y → Copied o out x r after y

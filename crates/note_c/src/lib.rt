@@ -7,36 +7,13 @@ mod numbers;
 ghost use Rattle.std.specs.Prelude.{◌≡◌, length};
 ghost use Rattle.plain.specs.Outcome.{kept};
 ghost use Rattle.plain_note.specs.Note.{copied, read_from, previewed};
-ghost use Rattle.answer.specs.Answers.{number, verdict};
 ghost use Rattle.memory.specs.Formed.{well_formed, of_note};
 ghost use Rattle.opening.specs.Opened.{opens};
 ghost use Rattle.runs.specs.Runs.{run_of, preview_of};
-ghost use Rattle.note_c.specs.Told.{code, Told, Copied};
+ghost use Rattle.told.specs.Told.{code};
+ghost use Rattle.note_c.specs.Told.{Copied};
 
-use answer::{Number, Verdict};
-
-// What C is told of a verdict: 0, or the number of the refusal.
-pub fn code_of(v: Verdict) -> u8
-    ensures { result ≡ code (verdict v) }
-{
-    match v {
-        Verdict::Accepted => 0,
-        Verdict::Refused(q) => answer::number_of(q),
-    }
-}
-
-// The same of a number, which is written through `out`; a refusal writes nothing.
-pub fn tell(a: Number, out: &mut u64) -> u8
-    ensures { Told (number a) out.old result out.new }
-{
-    match a {
-        Number::Is(n) => {
-            *out = n as u64;
-            0
-        }
-        Number::Refused(q) => answer::number_of(q),
-    }
-}
+use told::{code_of, tell};
 
 #[unsafe(no_mangle)]
 pub extern "C" fn wol_note_open(m: &mut [u8], n: usize) -> u8

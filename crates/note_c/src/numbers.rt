@@ -6,9 +6,9 @@ ghost use Rattle.plain.specs.Place.{Measure.byte, Measure.char, Measure.unit, Me
 ghost use Rattle.plain_note.specs.Note.{converted};
 ghost use Rattle.plain_calls.specs.Marks.{standing, line_beside};
 ghost use Rattle.memory.specs.Formed.{of_note};
-ghost use Rattle.note_c.specs.Told.{Told};
+ghost use Rattle.told.specs.Told.{Told};
 
-use crate::tell;
+use told::tell;
 
 // How many bytes the note has.
 #[unsafe(no_mangle)]

@@ -6,7 +6,7 @@ ghost use Rattle.plain.specs.Count.{count_if, breaks};
 ghost use Rattle.plain.specs.Place.{is_start, is_wide};
 ghost use Rattle.plain.specs.Outcome.{kept};
 ghost use Rattle.text_calls.specs.Asked.{asked_by};
-ghost use Rattle.text_c.specs.Told.{code};
+ghost use Rattle.told.specs.Told.{code};
 
 use answer::Number;
 

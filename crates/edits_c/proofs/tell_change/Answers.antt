@@ -4,7 +4,7 @@ use mir.Syntax.{w64}
 use mir.ValLaws.{to_z-of_z}
 use Rattle.plain.specs.Outcome.{kept}
 use Rattle.answer.specs.Answers.{change}
-use Rattle.note_c.specs.Told.{code}
+use Rattle.told.specs.Told.{code}
 use Rattle.edits_c.proofs.tell_change.Goals as goal
 
 pub returns-in-By : goal.returns-in-By

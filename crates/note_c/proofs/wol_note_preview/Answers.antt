@@ -1,7 +1,8 @@
 -- `note_c::wol_note_preview` meets its contract: what `preview` ensures, told, and of an empty preview what its companion ensures.
 use mathlib.Core.Path.{ap, ◌∙◌}
-use Rattle.note_c.specs.Told.{code}
-use Rattle.note_c.proofs.Laws.{mapped-code, preview-shows}
+use Rattle.told.specs.Told.{code}
+use Rattle.told.proofs.Laws.{mapped-code}
+use Rattle.note_c.proofs.Laws.{preview-shows}
 use Rattle.note_c.proofs.wol_note_preview.Goals as goal
 
 pub returns-then-shown-ne0 : goal.returns-then-shown-ne0

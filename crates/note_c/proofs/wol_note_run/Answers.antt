@@ -1,7 +1,8 @@
 -- `note_c::wol_note_run` meets its contract: what `run` ensures, told, and of an empty run what its companion ensures.
 use mathlib.Core.Path.{ap, ◌∙◌}
-use Rattle.note_c.specs.Told.{code}
-use Rattle.note_c.proofs.Laws.{mapped-code, run-shows}
+use Rattle.told.specs.Told.{code}
+use Rattle.told.proofs.Laws.{mapped-code}
+use Rattle.note_c.proofs.Laws.{run-shows}
 use Rattle.note_c.proofs.wol_note_run.Goals as goal
 
 pub returns-then-run-ne0 : goal.returns-then-run-ne0

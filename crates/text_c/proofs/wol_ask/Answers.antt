@@ -2,7 +2,7 @@
 use mathlib.Core.Path.{sym, ap, ◌∙◌}
 use Rattle.answer.specs.Answers.{number}
 use Rattle.plain.specs.Outcome.{kept}
-use Rattle.text_c.specs.Told.{code}
+use Rattle.told.specs.Told.{code}
 use Rattle.text_c.proofs.wol_ask.Goals as goal
 
 pub returns-in-Is : goal.returns-in-Is

@@ -1,5 +1,5 @@
 -- `note_c::numbers::wol_note_byte_to_char` meets its contract: what `byte_to_char` ensures, told.
-use Rattle.note_c.proofs.Laws.{told}
+use Rattle.told.proofs.Laws.{told}
 use Rattle.note_c.proofs.numbers.wol_note_byte_to_char.Goals as goal
 
 pub returns : goal.returns

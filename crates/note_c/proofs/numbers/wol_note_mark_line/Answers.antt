@@ -1,5 +1,5 @@
 -- `note_c::numbers::wol_note_mark_line` meets its contract: what `mark_line` ensures, told.
-use Rattle.note_c.proofs.Laws.{told}
+use Rattle.told.proofs.Laws.{told}
 use Rattle.note_c.proofs.numbers.wol_note_mark_line.Goals as goal
 
 pub returns : goal.returns

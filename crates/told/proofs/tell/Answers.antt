@@ -1,9 +1,9 @@
--- `note_c::tell` meets its contract, in each of the two cases.
+-- `told::tell` meets its contract, in each of the two cases.
 use mathlib.Core.Path.{sym, ap, ◌∙◌}
 use Rattle.plain.specs.Outcome.{kept}
 use Rattle.answer.specs.Answers.{number}
-use Rattle.note_c.specs.Told.{code}
-use Rattle.note_c.proofs.tell.Goals as goal
+use Rattle.told.specs.Told.{code}
+use Rattle.told.proofs.tell.Goals as goal
 
 pub returns-in-Is : goal.returns-in-Is
 unfolding code

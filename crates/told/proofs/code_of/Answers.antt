@@ -1,9 +1,9 @@
--- `note_c::code_of` meets its contract, in each of the two cases.
+-- `told::code_of` meets its contract, in each of the two cases.
 use mathlib.Core.Path.{sym, ap, ◌∙◌}
 use Rattle.answer.specs.Answers.{verdict}
 use Rattle.answer.specs.declared.Verdict.{Verdict}
-use Rattle.note_c.specs.Told.{code}
-use Rattle.note_c.proofs.code_of.Goals as goal
+use Rattle.told.specs.Told.{code}
+use Rattle.told.proofs.code_of.Goals as goal
 
 pub returns-in-Accepted : goal.returns-in-Accepted
 unfolding code
