@@ -2,7 +2,7 @@
 # fault.sh   shows the fault of the source crate's insert by its public calls, on its published sizes and on document 01's, with the same insertions
 #   into a note of the library. Fails if the fault does not show, and if the note's text is not the string's.
 # ORACLE=FOLDER  the source crate's folder (oracle.sh)
-# UNPROVED=yes   compiles the library with nothing proved: for the gate, which proves the same sources next
+# UNPROVED=yes   compiles the library with nothing proved: for the gate, which has proved the same sources
 set -eu
 root=$(cd "$(dirname "$0")/.." && pwd)
 cd "$root"

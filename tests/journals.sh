@@ -3,7 +3,7 @@
 #   some minutes. --short: some seconds. --seed N: other journals.
 # ORACLE=FOLDER  the source crate's folder (oracle.sh)
 # RECORDER=FILE  the program, instead of building it
-# UNPROVED=yes   compiles the program with nothing proved: for the gate, which proves the same sources next
+# UNPROVED=yes   compiles the program with nothing proved: for the gate, which has proved the same sources
 set -eu
 root=$(cd "$(dirname "$0")/.." && pwd)
 [ -z "${RECORDER-}" ] || RECORDER=$(cd "$(dirname "$RECORDER")" && pwd)/$(basename "$RECORDER")
@@ -30,8 +30,8 @@ CARGO_TARGET_DIR=target/compare cargo build --quiet --release --offline --config
 if [ -n "${RECORDER-}" ]; then
     set -- "$@" -- "$RECORDER"
 elif proves; then
-    rt check recorder
-    set -- "$@" -- $runner target/bin/recorder
+    prove_program
+    set -- "$@" -- crates/recorder/out/recorder
 else
     program target/journals/recorder
     set -- "$@" -- target/journals/recorder

@@ -71,7 +71,7 @@ pub extern "C" fn wol_text_sum(
     info_utf16_surrogates: u32,
     info_line_breaks: u32,
 )
-    ensures { SumTold minus (record { bytes = bytes.entry.now; chars = chars.old; utf16_surrogates = utf16_surrogates.old; line_breaks = line_breaks.old }) (record { bytes = info_bytes; chars = info_chars; utf16_surrogates = info_utf16_surrogates; line_breaks = info_line_breaks }) (record { bytes = bytes.exit.now; chars = chars.new; utf16_surrogates = utf16_surrogates.new; line_breaks = line_breaks.new }) }
+    ensures { SumTold minus (record { bytes = bytes.old; chars = chars.old; utf16_surrogates = utf16_surrogates.old; line_breaks = line_breaks.old }) (record { bytes = info_bytes; chars = info_chars; utf16_surrogates = info_utf16_surrogates; line_breaks = info_line_breaks }) (record { bytes = bytes.new; chars = chars.new; utf16_surrogates = utf16_surrogates.new; line_breaks = line_breaks.new }) }
 {
     let sum = TextSum {
         bytes: *bytes,
