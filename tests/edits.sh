@@ -1,69 +1,42 @@
 #!/bin/sh
-# edits.sh [CRATE...]   tries every must-fail edit of the crates named, or of all: those of the gate, and those that lie in must-fail/more beside them.
-#   Each is refused, or the run fails; so it does where an edit only makes a proof file unfit for the code, which shows nothing.
-# It proves what is not proved yet, and then goes by the toolchain's quick loop, which checks anew only what an edit touches. The gate tries its own
-# edits from nothing.
+# edits.sh [CRATE...]   tries every must-fail edit of the crates named, or of all: those of the gate, and those that lie in must-fail-more beside them.
+#   Each is refused, or the run fails; so it does where an edit cannot be applied or read, and where it only makes a proof file unfit for the code, which
+#   shows nothing.
+# It proves what is not proved yet, begins with what rt check kept, and tries again only what changed: what an edit came to is kept on this machine.
 set -eu
 cd "$(dirname "$0")/.."
+mkdir -p target
 
-# Puts an edit of one or more replacements into the crate that lies in this folder; each text to be replaced stands there once.
-put() {
-    file='' old=''
-    while IFS= read -r line || [ -n "$line" ]; do
-        case $line in
-        'file: '*) file=${line#file: } ;;
-        'old: '*) old=${line#old: } ;;
-        'new:'*)
-            new=${line#new:}
-            OLD=$old NEW=${new# } awk '
-                { text = text $0 "\n" }
-                END {
-                    old = ENVIRON["OLD"]
-                    at = index(text, old)
-                    rest = substr(text, at + length(old))
-                    if (!at || index(rest, old)) exit 1
-                    printf "%s%s%s", substr(text, 1, at - 1), ENVIRON["NEW"], rest
-                }' "$file" >edited || return 1
-            mv edited "$file"
-            ;;
-        esac
-    done <"$1"
-}
-
-# Tries one edit in the copy of its crate, over a check of the unedited one; the log lies beside the copy.
-try() {
-    label=$(basename "$edit" .edit) log=$copy/$(basename "$edit" .edit).log
-    rm -rf "$copy/crates/$crate"
-    cp -R "crates/$crate" "$copy/crates/$crate"
-    (cd "$copy/crates/$crate" && put "$top/$edit") || { echo "edits: $crate/$label names no text that stands once"; return 1; }
-    status=0
-    (cd "$copy" && rt dev "$crate") >"$log" 2>&1 || status=$?
-    first=$(grep -m 1 -e '^[^ ]*: error' -e '^note: [^ ]*:[0-9]*:[0-9]*:' "$log" | sed "s|$top/$copy/crates/$crate/||")
-    if [ "$status" -ne 1 ] || ! grep -q '^logic=not-proved' "$log"; then
-        echo "edits: $crate/$label is NOT refused (status $status)"
-        return 1
-    fi
-    case $first in *'has no `Need-'*) echo "edits: $crate/$label only makes a proof file unfit: $first"; return 1 ;; esac
-    echo "edits: $crate/$label is refused: $first" | cut -c 1-200
-}
-
-# One crate, in a folder of its own: the others are links.
-if [ "${1-}" = --one ]; then
-    crate=$2 top=$PWD copy=target/edits/$2 failed=0
-    mkdir -p "$copy/crates" "$copy/target"
-    cp crates.txt "$copy/"
-    for other in crates/*; do [ "$other" = "crates/$crate" ] || ln -s "$top/$other" "$copy/crates/"; done
-    for part in rlib stamp; do ln -s "$top/target/$part" "$copy/target/$part"; done
-    cp -R "crates/$crate" "$copy/crates/$crate"
-    (cd "$copy" && rt dev "$crate") >"$copy/unedited.log" 2>&1 || { echo "edits: $crate is not proved"; exit 1; }
-    for edit in "crates/$crate"/must-fail/*.edit "crates/$crate"/must-fail/more/*.edit; do
-        [ ! -f "$edit" ] || try || failed=1
+# In a copy, where those beside must-fail lie in it: rt tries no others.
+copy=$(mktemp -d)
+trap 'rm -rf "$copy"' EXIT
+trap 'exit 1' HUP INT TERM
+cp crates.txt "$copy/"
+[ ! -f HANDLES ] || cp HANDLES "$copy/"
+for crate in crates/*/; do
+    mkdir -p "$copy/$crate"
+    for part in src specs proofs must-fail; do [ ! -d "$crate$part" ] || cp -R "$crate$part" "$copy/$crate"; done
+    [ -d "${crate}must-fail-more" ] || continue
+    mkdir -p "$copy/${crate}must-fail"
+    for edit in "${crate}must-fail-more"/*.edit; do
+        [ ! -e "$copy/${crate}must-fail/$(basename "$edit")" ] || { echo "edits: two edits have one name: $edit"; exit 1; }
+        cp "$edit" "$copy/${crate}must-fail/"
     done
-    exit "$failed"
-fi
+done
 
-rt check "$@" >target/edits.log 2>&1 || { cat target/edits.log; exit 1; }
-rm -rf target/edits
-[ $# -gt 0 ] || set -- $(cd crates && for folder in */must-fail; do dirname "$folder"; done)
-printf '%s\n' "$@" | xargs -P "${RT_JOBS:-$(nproc)}" -n 1 tests/edits.sh --one >target/edits.said || { grep -v 'is refused' target/edits.said; exit 1; }
-echo "edits: $(grep -c 'is refused' target/edits.said) refused, each at a false fact"
+[ $# -gt 0 ] || set -- $(cd "$copy/crates" && for folder in */must-fail; do dirname "$folder"; done)
+count=0
+for crate in "$@"; do
+    for edit in "$copy/crates/$crate"/must-fail/*.edit; do [ ! -f "$edit" ] || count=$((count + 1)); done
+done
+status=0
+(cd "$copy" && rt must-fail "$@") >target/edits.log 2>&1 || status=$?
+sed -n 's/^rt: must-fail /edits: /p' target/edits.log | cut -c 1-200 >target/edits.said
+refused=$(grep -c ': refused, as it must be' target/edits.said) || true
+unfit=$(grep -c ': refused, as it must be (only because a proof file' target/edits.said) || true
+if [ "$status" -ne 0 ] || [ "$refused" -ne "$count" ] || [ "$unfit" -ne 0 ]; then
+    grep -v -e ': refused, as it must be:' -e ': refused, as it must be$' target/edits.said || cat target/edits.log
+    echo "edits: $((refused - unfit)) of $count refused at a false fact"
+    exit 1
+fi
+echo "edits: $count refused, each at a false fact"
