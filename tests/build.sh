@@ -1,5 +1,6 @@
 # Sourced by the scripts beside it and by those of bindings/, in the repository's folder. Sets `kit`, the folder of the toolchain, and `archives`, the
-# folder of the libraries that tests link: proved, or where UNPROVED is set compiled from the sources alone (`tests/unproved.py`).
+# folder of the libraries that tests link: proved, or where UNPROVED is set compiled from the sources alone, and where it is `bare` without checks of
+# their own too (`tests/unproved.py`).
 
 skip() {
     echo "$(basename "$0" .sh): skipped, $1"
@@ -11,7 +12,11 @@ kit=$(dirname "$(rt doc)")
 # Whether the sources are to be proved.
 proves() { [ -z "${UNPROVED-}" ]; }
 
-if proves; then archives=target/staticlib; else archives=target/unproved; fi
+case ${UNPROVED-} in
+'') archives=target/staticlib bare='' ;;
+bare) archives=target/bare bare=--bare ;;
+*) archives=target/unproved bare='' ;;
+esac
 
 # The crates of the repository that a crate needs, and those that these need.
 reached_by() {
@@ -31,7 +36,7 @@ reached_by() {
 # compile NAME FILE [CRATE...]   writes $archives/libNAME.a of a crate whose root file is this one, with nothing proved. It needs the crates named, or
 # those that crates.txt has for it.
 compile() {
-    python3 tests/unproved.py "$archives/lib$1.a" "$@"
+    python3 tests/unproved.py $bare "$archives/lib$1.a" "$@"
     echo "compiled $1, with nothing proved"
 }
 
