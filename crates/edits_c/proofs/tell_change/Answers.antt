@@ -11,7 +11,7 @@ pub returns-in-By : goal.returns-in-By
 unfolding code
 returns-in-By c =
     let o = sym (ap change c.in-By.is) in
-    (ap code o, to_z-of_z w64 c.in-By.n (record { sfits = c.known_told-1.given.0.1 }) ∙ ap (kept c.args.out.now) o)
+    (ap code o, to_z-of_z w64 c.in-By.n (record { sfits = c.in-By.known_told-1-own.given.0.1 }) ∙ ap (kept c.args.out.now) o)
 
 pub returns-in-Refused : goal.returns-in-Refused
 unfolding code

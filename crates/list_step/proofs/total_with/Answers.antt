@@ -38,7 +38,7 @@ loop-i-preserved c =
     let a = c.args in
     let l = c.loop-i in
     let k = c.info_of-found in
-    let g = c.known_told-1.given.0 in
+    let g = c.in-Is.known_told-1-own.given.0 in
     let h : l.i < len_of a.m.now a.slot = omega (arith, c.requires.1) in
     let z = counts-read a.m.now a.slot c.requires.0 l.i _ h k.result k.ensures c.in-Is.is in
     (omega arith, added-one a.m.now a.slot c.requires.0 l.i l.all _ c.add-all.result h l.invariant.1 z (omega (arith, g)) (omega (arith, g.1)) (omega (arith, g.1.1)) (omega (arith, g.1.1.1)) c.add-all.ensures)
