@@ -32,7 +32,7 @@ turns-one f p [] [] a b = refl
 turns-one f p [] (s ∷ ss) a b = absurd (omega (arith, ap length (a ∙ sym b.0), b.1))
 turns-one f p (r ∷ rs) [] a b = absurd (omega (arith, ap length (b ∙ sym a.0), a.1))
 turns-one f p (r ∷ rs) (s ∷ ss) a b =
-    let e = turns-one f _ rs ss a.2 b.2 in
+    let e = turns-one f (p + count_if is_start (f p)) rs ss a.2 b.2 in
     let h : r ≡ s = a.0 ∙ sym b.0 in cc
 
 -- all the parts of a text cs from p on
