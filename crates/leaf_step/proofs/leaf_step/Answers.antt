@@ -1,10 +1,10 @@
 -- `leaf_step` meets its contract.
 use mathlib.Core.Path.{refl}
+use mathlib.Core.Logic.{⊎_elim}
 use borrow.Author.Tests.{ltb-true, ltb-false}
 use Rattle.nodes.proofs.Heads.{head-free, head-list, head-none, list-no-leaf}
 use Rattle.leaf_step.proofs.Rules.{leaf-small, no-leaf, step-split, step-apart, step-fit}
 use Rattle.leaf_step.proofs.leaf_step.Goals as goal
-use Rattle.leaf_step.proofs.leaf_step.Goals.{then-start-end+else-len-piece, else-start-end}
 
 pub overflow_sub-len : goal.overflow_sub-len
 overflow_sub-len c =
@@ -31,7 +31,5 @@ pub returns-else-start-end : goal.returns-else-start-end
 returns-else-start-end c =
     let a = c.args in
     let t = c.fit.ensures in
-    elim c.else-start-end.branch [
-      then-start-end+else-len-piece w ↦ step-fit a.m.now a.slot a.start a.end a.piece.now c.head_of.result c.head_of.ensures _ c.in-Leaf.is w.if-len-piece.false _ _ t
-    | else-start-end w ↦ step-apart a.m.now a.slot a.start a.end a.piece.now c.head_of.result c.head_of.ensures _ c.in-Leaf.is w.if-start-end.false _ _ t
-    ]
+    ⊎_elim (λ w. step-fit a.m.now a.slot a.start a.end a.piece.now c.head_of.result c.head_of.ensures _ c.in-Leaf.is w.if-len-piece.false _ _ t)
+    (λ w. step-apart a.m.now a.slot a.start a.end a.piece.now c.head_of.result c.head_of.ensures _ c.in-Leaf.is w.if-start-end.false _ _ t) c.else-start-end.branch-raw

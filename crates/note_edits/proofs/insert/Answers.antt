@@ -47,4 +47,4 @@ returns-in-Accepted-insert_own c =
     (subst (λ (l : List ℕ). Turned l (put_in a.p (decode a.piece.now) (text_in l)) later) o c.insert_own.ensures.1)
     (subst (λ (l : List ℕ). a.piece.now ≡ [] → later ≡ l) o c.insert_own.ensures.2)
     _ (rest_part a.m.now _ k later) _ _ c.breaks_of-before.ensures c.breaks_of.ensures _
-    (to_z-of_z w64 c.difference.result (record { sfits = c.difference.type-inv }) ∙ c.difference.ensures)
+    (to_z-of_z w64 c.difference.result (record { sfits = c.difference.type_inv }) ∙ c.difference.ensures)

@@ -46,4 +46,4 @@ returns-in-Accepted-remove_own c =
     (subst (λ (l : List ℕ). Turned l (cut_out a.s a.e (text_in l)) later) o c.remove_own.ensures.1)
     (subst (λ (l : List ℕ). a.s ≡ a.e → later ≡ l) o c.remove_own.ensures.2)
     _ (rest_part a.m.now _ k later) _ _ c.breaks_of-before.ensures c.breaks_of.ensures _
-    (to_z-of_z w64 c.difference.result (record { sfits = c.difference.type-inv }) ∙ c.difference.ensures)
+    (to_z-of_z w64 c.difference.result (record { sfits = c.difference.type_inv }) ∙ c.difference.ensures)

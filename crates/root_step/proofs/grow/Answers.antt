@@ -24,7 +24,7 @@ raise-requires c =
     let h = c.height-h in
     let p = c.pair-both in
     let t = pair-ready _ _ p.result p.ensures in
-    (t.0, t.1, not_last h.result (omega (arith, h.type-inv)) c.if-h.false)
+    (t.0, t.1, not_last h.result (omega (arith, h.type_inv)) c.if-h.false)
 
 pub returns : goal.returns
 returns c =
