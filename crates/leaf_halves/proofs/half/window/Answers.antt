@@ -16,8 +16,7 @@ loop-i-init c =
 
 pub loop-i-preserved : goal.loop-i-preserved
 loop-i-preserved c =
-    let a = c.args in
-    (
+    let a = c.args in (
       omega arith,
       omega arith,
       simp length-set c.loop-i.invariant.2,

@@ -32,8 +32,7 @@ loop-i-smaller c = omega arith
 
 pub loop-i-preserved : goal.loop-i-preserved
 loop-i-preserved c =
-    let part = c.of_part-p in
-    (
+    let part = c.of_part-p in (
       omega arith,
       omega arith,
       omega arith,
