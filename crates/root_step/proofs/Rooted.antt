@@ -34,8 +34,8 @@ use Rattle.list_step.proofs.Family.{Family, counts_of, narrow-enough, is-sound, 
 use Rattle.edit_steps.specs.Held.{Held, Kept}
 use Rattle.edit_steps.proofs.Laws.{held_low, held-once}
 use Rattle.edit_steps.proofs.Keeps.{kept-twice, kept-but-free}
-use Rattle.root_step.specs.Root.{top_put, raised, grown, only, gave_way, no_root, shrunk, rooted}
-use Rattle.root_step.proofs.Rules.{raised_by, grown-it, gave-by, only-many, only_one, only-leaf, leaf-root, list-root, shrunk-stays, shrunk-gives}
+use Rattle.root_step.specs.Root.{top_put, raised, grown, only, gave_way, shrunk, rooted}
+use Rattle.root_step.proofs.Rules.{raised_by, grown-it, gave-by, only-many, only_one, only-leaf, shrunk-stays, shrunk-gives}
 use Rattle.root_step.proofs.Parts.{root-same, height-same, two-least, none-least, resized, child-root, child-told, one-used, one_of, none_of, two-or-more}
 use Rattle.root_step.proofs.Topped.{Stands, topped, top-held, top_kept, top-value}
 
@@ -109,12 +109,12 @@ module _ (m a : List ℕ) (n d : ℕ) (t new : List ℕ) (w : Held m n t) (small
         (ap (λ (q : ℕ). top_put a (kid q i) (height_of a)) (slot_is h high (own ∷ []) b) ∙ ap (top_put a own) (height-is h high (own ∷ []) b))
         (head-kept h high (own ∷ []) b)
 
-    stay-held : (z : Shrunk m a n d (in_tree m) h own new) → sound a (least_root h) h s ≡ true → no_root a s ≡ false → only a s ≡ false → RootHeld a n new m (small i)
+    stay-held : (z : Shrunk m a n d (in_tree m) h own new) → sound a (least_root h) h s ≡ true → only a s ≡ false → RootHeld a n new m (small i)
     unfolding rooted
-    stay-held z e t f =
+    stay-held z e f =
         let b = z.became in
         stood a own h (stands h high own b e z.told) (small i)
-        (ap (λ (q : ℕ). shrunk a q i) (slot_is h high (own ∷ []) b) ∙ shrunk-stays a s i t f ∙ ap (top_put a own) (height-is h high (own ∷ []) b))
+        (ap (λ (q : ℕ). shrunk a q i) (slot_is h high (own ∷ []) b) ∙ shrunk-stays a s i f ∙ ap (top_put a own) (height-is h high (own ∷ []) b))
         (head-kept h high (own ∷ []) b)
 
   few : n < 4294967296
@@ -204,7 +204,7 @@ module _ (m a : List ℕ) (n d : ℕ) (t new : List ℕ) (w : Held m n t) (small
       way-is : shrunk a s i ≡ top_put left child g
       way-is =
           let y : suc g - 1 ≡ g = omega arith in
-          shrunk-gives a s i (list-root a s list.list) (only_one a s (λ q. omega (arith, high-now)) list.list one)
+          shrunk-gives a s i (only_one a s (λ q. omega (arith, high-now)) list.list one)
           ∙ ap (gave_way a s child) high-now
           ∙ gave-by a s child (suc g) (value left) (given-value a n few b.slotted s inside not_free)
           ∙ ap (top_put left child) y
@@ -217,13 +217,12 @@ module _ (m a : List ℕ) (n d : ℕ) (t new : List ℕ) (w : Held m n t) (small
 
   small-held : (h : ℕ) (high : height_of m ≡ h) (i : TextInfo) → Shrunk m a n d (in_tree m) h (kid s i) new → (0 < h → 1 ≤ length new) → RootHeld a n new m (small i)
   small-held zero high i z f =
-      stay-held 0 high i z (ap (λ (j : ℕ). sound a j 0 s) none-least ∙ z.good) (leaf-root a s (height-is 0 high (kid s i ∷ []) z.became)) (only-leaf a s (height-is 0 high (kid s i ∷ []) z.became))
+      stay-held 0 high i z (ap (λ (j : ℕ). sound a j 0 s) none-least ∙ z.good) (only-leaf a s (height-is 0 high (kid s i ∷ []) z.became))
   small-held (suc g) high i z f =
       elim (ℕ_discrete (len_of a s) 1) [
         | yes q ↦ way-held g high i z q
         | no q ↦ stay-held (suc g) high i z
-            (resized a 0 (least_root (suc g)) (suc g) s (omega (arith, two-least g, two-or-more (len_of a s) (some g high i z (f (omega arith))) q)) z.good)
-            (list-root a s (list-sound a 0 g s z.good).list) (only-many a s q)
+            (resized a 0 (least_root (suc g)) (suc g) s (omega (arith, two-least g, two-or-more (len_of a s) (some g high i z (f (omega arith))) q)) z.good) (only-many a s q)
       ]
 
   -- ── two nodes, and a list above them ──

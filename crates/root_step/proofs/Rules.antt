@@ -48,9 +48,9 @@ use Rattle.edit_steps.specs.Acts.{Act, reading, Did}
 use Rattle.edit_steps.specs.Grown.{kid}
 use Rattle.free_slots.specs.Slots.{no_free, taken_memory, taken, given, Took}
 use Rattle.free_slots.proofs.Rules.{taken_not, taken-some}
-use Rattle.list_step.proofs.Rules.{load-opened, list-len}
+use Rattle.list_step.proofs.Rules.{list-len}
 use Rattle.list_step.proofs.Stored.{wide, narrow, was-stored, stored-never}
-use Rattle.root_step.specs.Root.{top_put, raised, grown, only, gave_way, no_root, shrunk, rooted, rooted_by}
+use Rattle.root_step.specs.Root.{top_put, raised, grown, only, gave_way, shrunk, rooted, rooted_by}
 
 abbrev Step : Type 0
 Step = Act (Unit {0})
@@ -275,6 +275,10 @@ module _ (m : List ℕ) (s : ℕ) where
   unfolding only
   only-leaf e = rw (eq-eqb (height_of m) 0 e)
 
+  only_none : is_list m s ≡ false → only m s ≡ false
+  unfolding only
+  only_none e = ap (λ (b : Bool). not (eqb (height_of m) 0) && (b && eqb (len_of m s) 1)) e ∙ and_none (not (eqb (height_of m) 0))
+
   pub only-many : (len_of m s ≡ 1 → ⊥) → only m s ≡ false
   unfolding only
   only-many f =
@@ -286,18 +290,6 @@ module _ (m : List ℕ) (s : ℕ) where
   unfolding only
   only_one f e g = rw (ne_eqb (height_of m) 0 f, e, eq-eqb (len_of m s) 1 g)
 
-  pub leaf-root : height_of m ≡ 0 → no_root m s ≡ false
-  unfolding no_root
-  leaf-root e = rw (eq-eqb (height_of m) 0 e)
-
-  pub list-root : is_list m s ≡ true → no_root m s ≡ false
-  unfolding no_root
-  list-root e = ap (λ (b : Bool). not (eqb (height_of m) 0) && not b) e ∙ and_none (not (eqb (height_of m) 0))
-
-  no-root : (height_of m ≡ 0 → ⊥) → is_list m s ≡ false → no_root m s ≡ true
-  unfolding no_root
-  no-root f e = rw (ne_eqb (height_of m) 0 f, e)
-
   module _ (i : TextInfo) where
     abbrev way : Step
     way = gave_way m s (get_or (children_of m s) 0 no_kid) (height_of m)
@@ -305,54 +297,47 @@ module _ (m : List ℕ) (s : ℕ) where
     abbrev stay : Step
     stay = top_put m (kid s i) (height_of m)
 
-    shrunk-none : no_root m s ≡ true → shrunk m s i ≡ (refused 2, m)
+    pub shrunk-stays : only m s ≡ false → shrunk m s i ≡ stay
     unfolding shrunk
-    shrunk-none e = ap (λ (b : Bool). cond b (refused 2, m) (cond (only m s) way stay)) e
+    shrunk-stays e = ap (λ (b : Bool). cond b way stay) e
 
-    module _ (there : no_root m s ≡ false) where
-      pub shrunk-stays : only m s ≡ false → shrunk m s i ≡ stay
-      unfolding shrunk
-      shrunk-stays e = rw (there, e)
-
-      pub shrunk-gives : only m s ≡ true → shrunk m s i ≡ way
-      unfolding shrunk
-      shrunk-gives e = rw (there, e)
+    pub shrunk-gives : only m s ≡ true → shrunk m s i ≡ way
+    unfolding shrunk
+    shrunk-gives e = ap (λ (b : Bool). cond b way stay) e
 
     module _ (h : ℕ) (high : h ≡ height_of m) where
       pub shrink-leaf : h ≡ 0 → shrunk m s i ≡ top_put m (kid s i) h
-      shrink-leaf e = shrunk-stays (leaf-root (sym high ∙ e)) (only-leaf (sym high ∙ e)) ∙ ap (top_put m (kid s i)) (sym high)
+      shrink-leaf e = shrunk-stays (only-leaf (sym high ∙ e)) ∙ ap (top_put m (kid s i)) (sym high)
 
       -- the list was read in slot p, which is this one
       module _ (p : ℕ) (at : p ≡ s) (r : Listed) (w : Listing (loaded m p) (list_of []) r) where
-        pub shrink-none : (h ≡ 0 → ⊥) → (q : Refusal) → r.verdict ≡ Verdict·case.Refused q → Did verdict (shrunk m s i) r.verdict m
-        shrink-none f q e = go (is_list m s) refl
+        read : is_list m s ≡ true → (r.list ≡ list_of (children_of m s)) × (r.list.len ≡ len_of m s)
+        read e =
+            let z = w.list ∙ ap (kept (list_of [])) (ap (loaded m) at ∙ loaded-is m s e) in
+            (z, ap (λ (x : NodeChildren). x.len) z ∙ list-len (children_of m s) ∙ children-length m s e)
+
+        none_read : is_list m s ≡ false → r.list.len ≡ 0
+        none_read e = ap (λ (x : NodeChildren). x.len) (w.list ∙ ap (kept (list_of [])) (ap (loaded m) at ∙ loaded-not m s e)) ∙ list-len []
+
+        pub shrink-many : (r.list.len ≡ 1 → ⊥) → shrunk m s i ≡ top_put m (kid s i) h
+        shrink-many f = shrunk-stays (go (is_list m s) refl) ∙ ap (top_put m (kid s i)) (sym high)
           where
-            go : (b : Bool) → is_list m s ≡ b → Did verdict (shrunk m s i) r.verdict m
-            go true z = verdict-never q r.verdict (w.answered ∙ ap (λ (x : ℕ). mapped (λ y. tt) (loaded m x)) at ∙ ap (mapped (λ y. tt)) (loaded-is m s z)) e
-            go false z =
-                did-is (shrunk m s i) r.verdict m (refused 2) m (shrunk-none (no-root (λ y. f (high ∙ y)) z))
-                (w.answered ∙ ap (λ (x : ℕ). mapped (λ y. tt) (loaded m x)) at ∙ ap (mapped (λ y. tt)) (loaded-not m s z)) refl
+            go : (b : Bool) → is_list m s ≡ b → only m s ≡ false
+            go true e = only-many (λ q. f ((read e).1 ∙ q))
+            go false e = only_none e
 
-        module _ (may : r.verdict ≡ Verdict·case.Accepted) where
-          is-list : is_list m s ≡ true
-          is-list = ap (is_list m) (sym at) ∙ (load-opened m p r w may).0
-
-          read : r.list ≡ list_of (children_of m s)
-          read = (load-opened m p r w may).1 ∙ ap (λ (x : ℕ). list_of (children_of m x)) at
-
-          read-len : r.list.len ≡ len_of m s
-          read-len = ap (λ (x : NodeChildren). x.len) read ∙ list-len (children_of m s) ∙ children-length m s is-list
-
-          pub shrink-many : (r.list.len ≡ 1 → ⊥) → shrunk m s i ≡ top_put m (kid s i) h
-          shrink-many f = shrunk-stays (list-root is-list) (only-many (λ q. f (read-len ∙ q))) ∙ ap (top_put m (kid s i)) (sym high)
-
-          pub shrink-one : (h ≡ 0 → ⊥) → r.list.len ≡ 1 → (q : ℕ) → q ≡ s → shrunk m s i ≡ gave_way m q (get_or r.list.arr 0 no_kid) h
-          shrink-one f g q at-too =
-              shrunk-gives (list-root is-list) (only_one (λ y. f (high ∙ y)) is-list (sym read-len ∙ g))
-              ∙ ap (λ (k : Kid). gave_way m s k (height_of m))
-              (sym (ap (λ (x : NodeChildren). get_or x.arr 0 no_kid) read ∙ first_of (children_of m s) (children-length m s is-list ∙ sym read-len ∙ g)))
-              ∙ ap (λ (x : ℕ). gave_way m x (get_or r.list.arr 0 no_kid) (height_of m)) (sym at-too)
-              ∙ ap (gave_way m q (get_or r.list.arr 0 no_kid)) (sym high)
+        pub shrink-one : (h ≡ 0 → ⊥) → r.list.len ≡ 1 → (q : ℕ) → q ≡ s → shrunk m s i ≡ gave_way m q (get_or r.list.arr 0 no_kid) h
+        shrink-one f g q at-too = go (is_list m s) refl
+          where
+            go : (b : Bool) → is_list m s ≡ b → shrunk m s i ≡ gave_way m q (get_or r.list.arr 0 no_kid) h
+            go true e =
+                let l = read e in
+                shrunk-gives (only_one (λ y. f (high ∙ y)) e (sym l.1 ∙ g))
+                ∙ ap (λ (k : Kid). gave_way m s k (height_of m))
+                (sym (ap (λ (x : NodeChildren). get_or x.arr 0 no_kid) l.0 ∙ first_of (children_of m s) (children-length m s e ∙ sym l.1 ∙ g)))
+                ∙ ap (λ (x : ℕ). gave_way m x (get_or r.list.arr 0 no_kid) (height_of m)) (sym at-too)
+                ∙ ap (gave_way m q (get_or r.list.arr 0 no_kid)) (sym high)
+            go false e = absurd (omega (arith, none_read e))
 
 -- ── the call ──
 

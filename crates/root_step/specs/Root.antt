@@ -45,17 +45,10 @@ unfoldable pub gave_way : List ℕ → ℕ → Kid → ℕ → Act (Unit {0})
 unfolding given top_put
 gave_way m s child h = reading m (given m s) (λ l. top_put l child (h - 1))
 
--- the root of a tree above leaves alone is a list
-unfoldable pub no_root : List ℕ → ℕ → Bool
-unfolding is_list
-no_root m s = not (eqb (height_of m) 0) && not (is_list m s)
-
--- 2 where it is none; any other root stays, with these counts
+-- any other root stays, with these counts
 unfoldable pub shrunk : List ℕ → ℕ → TextInfo → Act (Unit {0})
-unfolding no_root only gave_way top_put
-shrunk m s info =
-    cond (no_root m s) (refused 2, m)
-    (cond (only m s) (gave_way m s (get_or (children_of m s) 0 no_kid) (height_of m)) (top_put m (kid s info) (height_of m)))
+unfolding only gave_way top_put
+shrunk m s info = cond (only m s) (gave_way m s (get_or (children_of m s) 0 no_kid) (height_of m)) (top_put m (kid s info) (height_of m))
 
 -- ── the call: the head stays as it is where nothing was made ──
 

@@ -111,8 +111,7 @@ fn give_way(m: &mut [u8], slot: usize, child: Kid, h: u8) -> Verdict
     put_top(m, child, h - 1)
 }
 
-// The root is below a child's least size: a leaf may stay, and so may a list of two or three children. Refused by 2 where it should be a list and
-// is none.
+// The root is below a child's least size: a leaf may stay, and so may a list of two or three children.
 fn shrink(m: &mut [u8], slot: u32, info: TextInfo) -> Verdict
     ensures { Did verdict (shrunk m.old slot info) result m.new }
 {
@@ -124,12 +123,7 @@ fn shrink(m: &mut [u8], slot: u32, info: TextInfo) -> Verdict
     if h == 0 {
         return put_top(m, same, h);
     }
-    let found = load(m, index_of(slot));
-    let may = found.verdict;
-    let Verdict::Accepted = may else {
-        return may;
-    };
-    let list = found.list;
+    let list = load(m, index_of(slot)).list;
     if list.len != 1 {
         return put_top(m, same, h);
     }

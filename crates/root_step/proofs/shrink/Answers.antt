@@ -1,5 +1,5 @@
 -- `shrink` meets its contract: a leaf or a list of several children stays, and a list of one gives way.
-use Rattle.root_step.proofs.Rules.{did-as, shrink-leaf, shrink-none, shrink-many, shrink-one}
+use Rattle.root_step.proofs.Rules.{did-as, shrink-leaf, shrink-many, shrink-one}
 use Rattle.root_step.proofs.shrink.Goals as goal
 
 pub returns-then-h-eq0 : goal.returns-then-h-eq0
@@ -7,20 +7,14 @@ returns-then-h-eq0 c =
     let a = c.args in
     did-as _ _ _ _ (shrink-leaf a.m.now a.slot a.info _ c.height-h.ensures c.if-h-eq0.true) c.put_top.ensures
 
-pub returns-in_default : goal.returns-in_default
-returns-in_default c =
-    let a = c.args in
-    let l = c.load-found in
-    shrink-none a.m.now a.slot a.info _ c.height-h.ensures _ c.index_of.ensures l.result l.ensures c.if-h-eq0.false _ c.in_default.is
-
 pub returns-then-list-ne1 : goal.returns-then-list-ne1
 returns-then-list-ne1 c =
     let a = c.args in
-    let l = c.load-found in
-    did-as _ _ _ _ (shrink-many a.m.now a.slot a.info _ c.height-h.ensures _ c.index_of.ensures l.result l.ensures c.in-Accepted.is c.if-list-ne1.true) c.put_top-then-list-ne1.ensures
+    let l = c.load in
+    did-as _ _ _ _ (shrink-many a.m.now a.slot a.info _ c.height-h.ensures _ c.index_of.ensures l.result l.ensures c.if-list-ne1.true) c.put_top-then-list-ne1.ensures
 
 pub returns : goal.returns
 returns c =
     let a = c.args in
-    let l = c.load-found in
-    did-as _ _ _ _ (shrink-one a.m.now a.slot a.info _ c.height-h.ensures _ c.index_of.ensures l.result l.ensures c.in-Accepted.is c.if-h-eq0.false c.if-list-ne1.false _ c.index_of-2.ensures) c.give_way.ensures
+    let l = c.load in
+    did-as _ _ _ _ (shrink-one a.m.now a.slot a.info _ c.height-h.ensures _ c.index_of.ensures l.result l.ensures c.if-h-eq0.false c.if-list-ne1.false _ c.index_of-2.ensures) c.give_way.ensures
