@@ -25,6 +25,10 @@ for crate in crates/*/; do
 done
 
 [ $# -gt 0 ] || set -- $(cd "$copy/crates" && for folder in */must-fail; do dirname "$folder"; done)
+# Here, so that the copy takes the libraries from here.
+for crate in "$@"; do
+    (cd "crates/$crate" && rt check) >target/edits.log 2>&1 || { cat target/edits.log; exit 1; }
+done
 count=0
 for crate in "$@"; do
     for edit in "$copy/crates/$crate"/must-fail/*.edit; do [ ! -f "$edit" ] || count=$((count + 1)); done
