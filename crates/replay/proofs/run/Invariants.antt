@@ -5,7 +5,7 @@ use Rattle.replay.specs.Turns.{Sums}
 use Rattle.replay.proofs.run.Given as goal
 
 abbrev pub invariant-loop-k : goal.invariant-loop-k
-invariant-loop-k l = Sums l.cases l.k × Sums l.differ l.missed × (l.missed ≤ l.k)
+invariant-loop-k g l = Sums l.cases l.k × Sums l.differ l.missed × (l.missed ≤ l.k)
 
 abbrev pub decreases-loop-k : goal.decreases-loop-k
-decreases-loop-k l = 4294967295 - l.k
+decreases-loop-k g l = 4294967295 - l.k

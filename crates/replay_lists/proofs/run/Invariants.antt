@@ -3,7 +3,7 @@ use Prim.Native.Nat.{◌-◌, ◌≤◌}
 use Rattle.replay_lists.proofs.run.Given as goal
 
 abbrev pub invariant-loop-k : goal.invariant-loop-k
-invariant-loop-k l = l.missed ≤ l.k
+invariant-loop-k g l = l.missed ≤ l.k
 
 abbrev pub decreases-loop-k : goal.decreases-loop-k
-decreases-loop-k l = 4294967295 - l.k
+decreases-loop-k g l = 4294967295 - l.k

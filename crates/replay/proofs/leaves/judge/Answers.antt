@@ -5,18 +5,6 @@ use lib.Seq.{length-take-le}
 use Rattle.replay.proofs.Recorded.{leaves-lie, judged-refused, judged-leaves}
 use Rattle.replay.proofs.leaves.judge.Goals as goal
 
-pub slice_bounds-same_leaves-end : goal.slice_bounds-same_leaves-end
-slice_bounds-same_leaves-end c = (leaves-lie _ _ c.ask_by.ensures c.in-Are.is).left-fits
-
-pub slice_bounds-same_leaves-end-in-Are : goal.slice_bounds-same_leaves-end-in-Are
-slice_bounds-same_leaves-end-in-Are c = sym (length-take-le _ _ (slice-reshare-prefix-same-leaves c))
-
-pub slice_bounds-same_leaves-end-in-Are-2 : goal.slice_bounds-same_leaves-end-in-Are-2
-slice_bounds-same_leaves-end-in-Are-2 c = (leaves-lie _ _ c.ask_by.ensures c.in-Are.is).right-fits
-
-pub slice_bounds-same_leaves-end-in-Are-3 : goal.slice_bounds-same_leaves-end-in-Are-3
-slice_bounds-same_leaves-end-in-Are-3 c = sym (length-take-le _ _ (slice-reshare-prefix-same-leaves-2 c))
-
 pub returns-in-Refused : goal.returns-in-Refused
 returns-in-Refused c = (omega arith, judged-refused c.ask_by.ensures _ _ _ c.in-Refused.r _ c.in-Refused.is c.number_of-n.ensures)
 

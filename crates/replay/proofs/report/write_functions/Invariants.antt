@@ -3,7 +3,7 @@ use Prim.Native.Nat.{◌-◌}
 use Rattle.replay.proofs.report.write_functions.Given as goal
 
 abbrev pub invariant-loop-f : goal.invariant-loop-f
-invariant-loop-f l = Unit {0}
+invariant-loop-f g l = Unit {0}
 
 abbrev pub decreases-loop-f : goal.decreases-loop-f
-decreases-loop-f l = 32 - l.f
+decreases-loop-f g l = 32 - l.f

@@ -2,6 +2,7 @@
 use mathlib.Core.Path.{◌≡◌, ap}
 use lib.Dec.{eqb}
 use borrow.Author.Tests.{eqb-true, eq-eqb}
+use Rattle.list_calls.specs.Asked.{Five as Numbers}
 use Rattle.replay_lists.specs.declared.judge.Five.{Five}
 use Rattle.replay_lists.specs.Judged.{numbers, Says}
 use Rattle.replay_lists.proofs.Recorded.{says-no}

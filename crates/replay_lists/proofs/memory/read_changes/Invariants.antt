@@ -5,7 +5,7 @@ use lib.ListN.{length}
 use Rattle.replay_lists.proofs.memory.read_changes.Given as goal
 
 abbrev pub invariant-loop-k : goal.invariant-loop-k
-invariant-loop-k l = length l.m ≡ length l.initial.m
+invariant-loop-k g l = length l.m ≡ length l.initial.m
 
 abbrev pub decreases-loop-k : goal.decreases-loop-k
-decreases-loop-k l = l.n - l.k
+decreases-loop-k g l = l.n - l.k
