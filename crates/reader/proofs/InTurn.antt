@@ -26,14 +26,18 @@ use Rattle.runs.proofs.Says.{read-says, preview-says, preview-also}
 use Rattle.runs.proofs.Fronts.{run-front, preview-front}
 use Rattle.reader.specs.Handed.{InTurn, joined}
 
+-- with the place last, as it changes from part to part
+turns_alike : (f : ℕ → List ℕ) (rs ss : List (List ℕ)) (p : ℕ) → InTurn f p rs → InTurn f p ss → rs ≡ ss
+turns_alike f [] [] p a b = refl
+turns_alike f [] (s ∷ ss) p a b = absurd (omega (arith, ap length (a ∙ sym b.0), b.1))
+turns_alike f (r ∷ rs) [] p a b = absurd (omega (arith, ap length (b ∙ sym a.0), a.1))
+turns_alike f (r ∷ rs) (s ∷ ss) p a b =
+    let e = turns_alike f rs ss _ a.2 b.2 in
+    let h : r ≡ s = a.0 ∙ sym b.0 in cc
+
 -- THEOREM: there is one way only to take them
 pub turns-one : (f : ℕ → List ℕ) (p : ℕ) (rs ss : List (List ℕ)) → InTurn f p rs → InTurn f p ss → rs ≡ ss
-turns-one f p [] [] a b = refl
-turns-one f p [] (s ∷ ss) a b = absurd (omega (arith, ap length (a ∙ sym b.0), b.1))
-turns-one f p (r ∷ rs) [] a b = absurd (omega (arith, ap length (b ∙ sym a.0), a.1))
-turns-one f p (r ∷ rs) (s ∷ ss) a b =
-    let e = turns-one f (p + count_if is_start (f p)) rs ss a.2 b.2 in
-    let h : r ≡ s = a.0 ∙ sym b.0 in cc
+turns-one f p rs ss a b = turns_alike f rs ss p a b
 
 -- all the parts of a text cs from p on
 pub record AllParts (f : ℕ → List ℕ) (cs : List ℕ) (p : ℕ) : Type 0 where
