@@ -7,7 +7,7 @@ use Prim.Native.Nat.{ℕ, suc, ◌+◌, ◌-◌, ◌≤◌, ◌<◌}
 use native.Mathlib.Omega.{arith}
 use lib.ListN.{length, get_or, length-append}
 use lib.Seq.{get_or_at, append_snoc}
-use Rattle.plain.specs.Outcome.{Outcome.value}
+use Rattle.plain.specs.Outcome.{Outcome, Outcome.value, kept}
 use Rattle.answer.specs.declared.Truth.TheVariants as Truth·case
 use Rattle.text_info.specs.declared.TextInfo.{TextInfo}
 use Rattle.pool.specs.declared.Kid.{Kid}
@@ -25,8 +25,8 @@ use Rattle.child_info.specs.Kin.{slot_in}
 use Rattle.child_info.specs.Renewed.{renewed}
 use Rattle.merge.specs.Join.{joined}
 use Rattle.merge.specs.Merge.{settled_memory}
-use Rattle.free_slots.specs.Slots.{given_memory}
-use Rattle.free_slots.proofs.Laws.{given_is}
+use Rattle.free_slots.specs.Slots.{given, given_memory}
+use Rattle.free_slots.proofs.Laws.{given-value, given_is}
 use Rattle.edit_steps.specs.Made.{Made, Made.same, Made.split, Made.small, Made.apart, sized}
 use Rattle.edit_steps.specs.Became.{uses_all, free, Became}
 use Rattle.edit_steps.specs.Grown.{kid, MadeIs}
@@ -56,16 +56,22 @@ module _ (m mid : List ℕ) (n d b : ℕ) (u : ℕ → ℕ) (h s : ℕ) (t : Lis
   abbrev after : List ℕ
   after = given_memory mid b
 
-  given_back : (made : Made) → MadeIs m mid n d u h s t made → MadeIs m after n d (λ z. u z + hit b z) h s t made
+  given_back : (made : Made) → MadeIs m mid n d u h s t made → MadeIs m after n d (λ z. u z + hit b z) h s t made × (given mid b ≡ value after)
   given_back (same i) r =
-      let none : free mid n b ≡ 0 = omega (arith, r.became.conserve b) in
-      grown-freed m mid after n d b u h t (given_is mid n few r.became.slotted b low none) (kid s i ∷ []) r (omega (arith, r.became.conserve b))
+      let none : free mid n b ≡ 0 = omega (arith, r.became.conserve b) in (
+        grown-freed m mid after n d b u h t (given_is mid n few r.became.slotted b low none) (kid s i ∷ []) r (omega (arith, r.became.conserve b)),
+        given-value mid n few r.became.slotted b low none,
+      )
   given_back (split i c j) r =
-      let none : free mid n b ≡ 0 = omega (arith, r.became.conserve b) in
-      grown-freed m mid after n d b u h t (given_is mid n few r.became.slotted b low none) (kid s i ∷ kid c j ∷ []) r (omega (arith, r.became.conserve b))
+      let none : free mid n b ≡ 0 = omega (arith, r.became.conserve b) in (
+        grown-freed m mid after n d b u h t (given_is mid n few r.became.slotted b low none) (kid s i ∷ kid c j ∷ []) r (omega (arith, r.became.conserve b)),
+        given-value mid n few r.became.slotted b low none,
+      )
   given_back (small i) r =
-      let none : free mid n b ≡ 0 = omega (arith, r.became.conserve b) in
-      shrunk-freed m mid after n d b u h t (given_is mid n few r.became.slotted b low none) (kid s i) r (omega (arith, r.became.conserve b)) q
+      let none : free mid n b ≡ 0 = omega (arith, r.became.conserve b) in (
+        shrunk-freed m mid after n d b u h t (given_is mid n few r.became.slotted b low none) (kid s i) r (omega (arith, r.became.conserve b)) q,
+        given-value mid n few r.became.slotted b low none,
+      )
   given_back apart r = absurd r
 
 module _ (m : List ℕ) (n g p i : ℕ) (pre : List Kid) (x y : Kid) (post : List Kid) (info : TextInfo) (r : Lame m n g p pre x y post info) (at : length pre ≡ i) where
@@ -161,11 +167,13 @@ module _ (m : List ℕ) (n g p i : ℕ) (pre : List Kid) (x y : Kid) (post : Lis
         made = sized 4 (length (pre ++ (ka ∷ post))) info;
         later = given_memory (done true l) b;
         accepted =
-            mended-is true l w.accepted ∙ ap (λ (j : ℕ). value (sized 4 j info, given_memory (done true l) b)) long;
+            mended-is true l w.accepted
+            ∙ ap (λ (j : ℕ). value (sized 4 j info, kept (done true l) (given (done true l) b))) long
+            ∙ ap (λ (o : Outcome (List ℕ)). value (sized 4 (length (pre ++ (ka ∷ post))) info, kept (done true l) o)) back.1;
         is =
             made_as m (given_memory (done true l) b) n 0 (λ z. hit p z + (uses_all m g pre z + (w.u z + uses_all m g post z)) + hit b z)
             (λ z. hit p z + (uses_all m g pre z + (uses_both m g x y z + uses_all m g post z))) (suc g) p (all m g pre x y post) (all m g pre x y post)
-            (sized 4 (length (pre ++ (ka ∷ post))) info) back (λ z. omega (arith, w.parts z)) refl;
+            (sized 4 (length (pre ++ (ka ∷ post))) info) back.0 (λ z. omega (arith, w.parts z)) refl;
       }
 
   -- THEOREM: the two are joined, and the list is what became of it

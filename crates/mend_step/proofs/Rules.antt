@@ -7,7 +7,7 @@ use native.Mathlib.Omega.{arith}
 use lib.Dec.{leb}
 use lib.ListN.{length}
 use borrow.Author.Tests.{le-leb, lt-leb, leb-false, lt-ltb, le-ltb, not-false}
-use Rattle.plain.specs.Outcome.{Outcome, Outcome.value, Outcome.refused, kept, mapped}
+use Rattle.plain.specs.Outcome.{Outcome, Outcome.value, Outcome.refused, mapped}
 use Rattle.plain.proofs.Outcome.{rule-applies, rule-passed, one-applies, one-passed, accepted, all-accepted}
 use Rattle.answer.specs.Answers.{refusal_number, verdict, truth}
 use Rattle.answer.specs.declared.Refusal.{Refusal}
@@ -139,14 +139,11 @@ module _ (m : List ℕ) (b : ℕ) (named : b < 4294967296) (there : slot_start b
   pub given-never : {X : Type 0} (q : Refusal) → v ≡ Verdict·case.Refused q → X
   given-never {X} q e = wrote-never (given m b) m v after w (given_memory m b) (given-it m b named there) q e
 
-  given-after : after ≡ given_memory m b
-  given-after = w.memory ∙ ap (λ (o : Outcome (List ℕ)). kept m o) (given-it m b named there)
-
-  pub closed-merged : (merged : Bool) (n : ℕ) (info : TextInfo) (r : Edit) → merged ≡ true → edit r ≡ value (sized 4 (n - 1) info)
-      → Stepped (value (closed m merged b n info)) m r after
-  closed-merged merged n info r e f = subst (λ (x : Bool). Stepped (value (closed m x b n info)) m r after) (sym e) (record { answered = f; memory = given-after })
-
 module _ (m : List ℕ) (merged : Bool) (b n : ℕ) (info : TextInfo) (r : Edit) (after : List ℕ) where
+  pub closed-merged : merged ≡ true → (v : Verdict) → Wrote (given m b) m v after → edit r ≡ value (sized 4 (n - 1) info)
+      → Stepped (value (closed m merged b n info)) m r after
+  closed-merged e v w f = subst (λ (x : Bool). Stepped (value (closed m x b n info)) m r after) (sym e) (record { answered = f; memory = w.memory })
+
   pub closed-shared : merged ≡ false → after ≡ m → edit r ≡ value (sized 4 n info) → Stepped (value (closed m merged b n info)) m r after
   closed-shared e g f = subst (λ (x : Bool). Stepped (value (closed m x b n info)) m r after) (sym e) (record { answered = f; memory = g })
 

@@ -9,7 +9,8 @@ returns-in-Refused c =
 
 pub returns-in-Accepted : goal.returns-in-Accepted
 returns-in-Accepted c =
-    closed-merged c.args.m.now c.args.second c.requires.1 c.requires.2 c.give_slot.result _ c.give_slot.ensures c.args.merged c.args.n c.args.info c.became.result c.if-merged.true c.became.ensures
+    let a = c.args in
+    closed-merged a.m.now a.merged a.second a.n a.info c.became.result _ c.if-merged.true c.give_slot.result c.give_slot.ensures c.became.ensures
 
 pub returns-else-merged : goal.returns-else-merged
 returns-else-merged c =
