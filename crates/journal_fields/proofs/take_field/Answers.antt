@@ -25,3 +25,6 @@ returns c =
 
 pub slice_bounds-apply-end : goal.slice_bounds-apply-end
 slice_bounds-apply-end c = let w = one-whole c.args.s.now c.field_bytes-used.result c.field_bytes-used.ensures.0 (λ z. c.if-used-eq0.false z) in omega (arith, w.2)
+
+pub slice_bounds-apply-start : goal.slice_bounds-apply-start
+slice_bounds-apply-start c = let w = one-whole c.args.s.now c.field_bytes-used.result c.field_bytes-used.ensures.0 (λ z. c.if-used-eq0.false z) in omega (arith, w.3)
