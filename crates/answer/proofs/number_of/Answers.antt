@@ -38,18 +38,3 @@ returns-in-Size c = sym (ap refusal_number c.in-Size.is)
 
 pub returns-in-Side : goal.returns-in-Side
 returns-in-Side c = sym (ap refusal_number c.in-Side.is)
-
-pub returns-in-Sum : goal.returns-in-Sum
-returns-in-Sum c = sym (ap refusal_number c.in-Sum.is)
-
-pub returns-in-Journals : goal.returns-in-Journals
-returns-in-Journals c = sym (ap refusal_number c.in-Journals.is)
-
-pub returns-in-Profile : goal.returns-in-Profile
-returns-in-Profile c = sym (ap refusal_number c.in-Profile.is)
-
-pub returns-in-Edition : goal.returns-in-Edition
-returns-in-Edition c = sym (ap refusal_number c.in-Edition.is)
-
-pub returns-in-Form : goal.returns-in-Form
-returns-in-Form c = sym (ap refusal_number c.in-Form.is)
