@@ -1,8 +1,6 @@
 -- `replay::leaves::judge` meets its contract: the two leaves are read where they lie, or the refusal is the call's.
-use mathlib.Core.Path.{sym}
 use native.Mathlib.Omega.{arith}
-use lib.Seq.{length-take-le}
-use Rattle.replay.proofs.Recorded.{leaves-lie, judged-refused, judged-leaves}
+use Rattle.replay.proofs.Recorded.{judged-refused, judged-leaves}
 use Rattle.replay.proofs.leaves.judge.Goals as goal
 
 pub returns-in-Refused : goal.returns-in-Refused
