@@ -1,6 +1,5 @@
 -- `replay_lists::memory::put` is safe and ends: the bytes lie within the memory, which stays as long as it was.
 use mathlib.Core.Path.{refl}
-use Prim.Native.Nat.{◌-◌}
 use native.Mathlib.Omega.{arith}
 use lib.ListN.{length-set}
 use Rattle.replay_lists.proofs.memory.put.Goals as goal
