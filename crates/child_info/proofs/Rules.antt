@@ -1,7 +1,7 @@
 -- From the tests of the code to the rules of `Calls`: what a list read from its slot is, and what the checks of its children come to.
 use mathlib.Core.Path.{◌≡◌, refl, sym, ap, ◌∙◌}
 use mathlib.Core.Bool.{Bool, true, false, not}
-use mathlib.Core.List.{List, [], ◌∷◌}
+use mathlib.Core.List.{List, [], ◌∷◌, ◌++◌}
 use Prim.Native.Nat.{ℕ, ◌≤◌, ◌<◌}
 use native.Mathlib.Omega.{arith}
 use lib.Dec.{ltb}
@@ -20,8 +20,9 @@ use Rattle.pool.proofs.Kids.{entries-length}
 use Rattle.node_children.specs.declared.NodeChildren.{NodeChildren}
 use Rattle.node_children.specs.declared.Listed.{Listed}
 use Rattle.node_children.specs.Kids.{kids, list_of, Listing}
+use Rattle.node_children.specs.Calls.{pushed}
 use Rattle.node_children.proofs.Lists.{is-kids}
-use Rattle.node_children.proofs.Rules.{none-yes, none-no, two-second, two-passed}
+use Rattle.node_children.proofs.Rules.{none-yes, none-no, two-second, two-passed, pushed-done}
 use Rattle.nodes.specs.Node.{is_list, children_of}
 use Rattle.nodes.specs.Calls.{loaded}
 use Rattle.child_info.specs.declared.checks.Ask.TheVariants as Ask·case
@@ -71,6 +72,15 @@ pub clean-read : (c : NodeChildren) (ks : List Kid) → c ≡ list_of ks → c �
 clean-read c ks e = e ∙ ap list_of (sym (is-kids c ks e))
 
 -- ── two children as a list ──
+
+pub pushed-list : (c : NodeChildren) (ks : List Kid) (k : Kid) (r : Listed) → c ≡ list_of ks → length ks < 16 → Listing (pushed c k) c r → r.list ≡ list_of (ks ++ (k ∷ []))
+unfolding list_of
+pushed-list c ks k r e h p =
+    let n : c.len ≡ length ks = ap (λ (l : NodeChildren). l.len) e in
+    p.list ∙ ap (kept c) (pushed-done c k (omega arith)) ∙ ap (λ (l : List Kid). list_of (l ++ (k ∷ []))) (is-kids c ks e)
+
+pub pair-pushed : (n : NodeChildren) (a b : Kid) (r q : Listed) → n ≡ list_of [] → Listing (pushed n a) n r → Listing (pushed r.list b) r.list q → q.list ≡ list_of (a ∷ b ∷ [])
+pair-pushed n a b r q e f g = pushed-list r.list (a ∷ []) b q (pushed-list n [] a r e (omega arith) f) (omega arith) g
 
 pub pair-at : (ks : List Kid) (i j : ℕ) → i < j → j < length ks → pair_at i j ks ≡ get_or ks i no_kid ∷ get_or ks j no_kid ∷ []
 pair-at ks i j g h = rw (lt-ltb i j g, lt-ltb j (length ks) h)

@@ -225,6 +225,20 @@ module _ (m : List ℕ) (list : NodeChildren) (i : ℕ) (leaves : AllLeaves m (k
   abbrev here : Bool
   here = fits (text_of m (slot_in (kids list) (i - 1))) (text_of m (slot_in (kids list) i))
 
+  -- from whether all was moved
+  module _ (q : Bool) (l : List ℕ)
+      (promise : (q ≡ fits (text_of m (get_or list.arr (i - 1) no_kid).slot) (text_of m (get_or list.arr i no_kid).slot)) × (l ≡ packed m (get_or list.arr (i - 1) no_kid).slot (get_or list.arr i no_kid).slot)) where
+    moved-here : (q ≡ here) × (l ≡ packed m (slot_in (kids list) (i - 1)) (slot_in (kids list) i))
+    moved-here = rw (kid-read list (i - 1) (omega arith), kid-read list i more) at promise
+
+    pub took : q ≡ true → (r : Taken) → Taking (removed list i) list r
+        → (l ≡ packed m (slot_in (kids list) (i - 1)) (slot_in (kids list) i)) × (r.list ≡ cond here (list_of (without i (kids list))) list)
+    took e r w = (moved-here.1, removed-list list i more few r w here (sym moved-here.0 ∙ e))
+
+    pub left : q ≡ false → (l ≡ packed m (slot_in (kids list) (i - 1)) (slot_in (kids list) i)) × (list ≡ cond here (list_of (without i (kids list))) list)
+    left e = (moved-here.1, kept-list list i here (sym moved-here.0 ∙ e))
+
+  -- from the answer that tells it
   module _ (z : Truth) (l : List ℕ)
       (promise : (truth z ≡ value (fits (text_of m (get_or list.arr (i - 1) no_kid).slot) (text_of m (get_or list.arr i no_kid).slot))) × (l ≡ packed m (get_or list.arr (i - 1) no_kid).slot (get_or list.arr i no_kid).slot)) where
     this-turn : (truth z ≡ value here) × (l ≡ packed m (slot_in (kids list) (i - 1)) (slot_in (kids list) i))

@@ -16,6 +16,7 @@ use Rattle.plain.proofs.Encode.{encode-append, encode-take, encode-drop}
 use Rattle.plain.proofs.Place.{byte_split}
 use Rattle.plain_note.specs.Note.{between, copied}
 use Rattle.answer.specs.Answers.{number}
+use Rattle.answer.specs.declared.Refusal.{Refusal}
 use Rattle.answer.specs.declared.Refusal.TheVariants.{Memory, Place, Output}
 use Rattle.answer.specs.declared.Number.{Number}
 use Rattle.answer.specs.declared.Number.TheVariants as Number·case
@@ -98,6 +99,15 @@ module _ (cs : List ℕ) (s e : ℕ) (h : s ≤ e) where
 module _ (m own : List ℕ) (p : ℕ) (ok : well_formed m ≡ true) (h : p ≤ length (note_of m).text) (is : own ≡ own_of m) (r : Number) (found : number r ≡ byte_of own p) where
   pub byte-there : number r ≡ value (byte_at (note_of m).text p)
   byte-there = found ∙ ap (λ (l : List ℕ). byte_of l p) is ∙ note-byte m ok p h
+
+  pub byte-is : (b : ℕ) → r ≡ Number·case.Is b → b ≡ byte_at (note_of m).text p
+  byte-is b e = let z : value b ≡ value (byte_at (note_of m).text p) = sym (ap number e) ∙ byte-there in cc
+
+  pub byte-refused : (q : Refusal) → r ≡ Number·case.Refused q → ⊥
+  byte-refused q e =
+      let z : number (Number·case.Refused q) ≡ value (byte_at (note_of m).text p) = sym (ap number e) ∙ byte-there in
+      let w : ◌≡◌ {A = ℕ} 0 1 = cc in
+      omega arith
 
 -- ── what the calls come to ──
 

@@ -2,10 +2,13 @@
 use mathlib.Core.Path.{◌≡◌, refl, sym, ap, subst, ◌∙◌}
 use mathlib.Core.Bool.{Bool, true, false, ◌||◌}
 use mathlib.Core.List.{List, [], ◌∷◌}
+use mathlib.Core.Logic.{inl, inr}
 use Prim.Native.Nat.{ℕ, ◌+◌, ◌≤◌, ◌<◌}
 use native.Mathlib.Omega.{arith}
 use lib.ListN.{length, get_or}
 use borrow.Author.Tests.{lt-ltb, le-ltb, ltb-false}
+use denote.Enum.Declared.{tag_of}
+use types.Run.{OneOf}
 use Rattle.plain_note.specs.Note.{head_size}
 use Rattle.plain.specs.Outcome.{Outcome, Outcome.value, Outcome.refused, past, mapped, kept}
 use Rattle.plain.proofs.Logic.{or_left, or_right, or-none, neither}
@@ -21,6 +24,7 @@ use Rattle.pool.specs.declared.Head.TheVariants as Head·case
 use Rattle.octets.specs.Big.{two_at, four_at}
 use Rattle.pool.specs.Slot.{slot_start, kind_of, len_of, next_of, head_put}
 use Rattle.pool.specs.Calls.{outside, Held.free, Held.leaf, Held.list, held, held_by, wrong_head, head_of, free_set, head_set, Wrote}
+use Rattle.pool.specs.contracts.Head.{the_type}
 use Rattle.pool.proofs.Slots.{next-lies, head-size}
 use Rattle.pool.proofs.Rules.{wrote-refused, wrote-done}
 use Rattle.pool.proofs.Opened.{head_opened, head-wrote, wrote-never}
@@ -96,6 +100,18 @@ module _ (m : List ℕ) (s : ℕ) (r : Head) (promise : held r ≡ head_of m s) 
           let k : kind_of m s ≡ 0 = (let l = ltb-false 0 (kind_of m s) n.1 in omega arith) in
           let w : (outside m s || wrong_head (kind_of m s) (len_of m s)) ≡ false = rw (n.0, k) in
           clash (refusal_number q) _ (sym (ap held e) ∙ promise ∙ one-passed 2 (outside m s || wrong_head (kind_of m s) (len_of m s)) (held_by (kind_of m s) (len_of m s) (next_of m s)) w)
+
+  -- nor is what is a leaf, a list or refused, by its tag
+  pub head-other : OneOf (1 ∷ 2 ∷ 3 ∷ []) (tag_of the_type r) → no_free m s ≡ true
+  head-other k = go r refl k
+    where
+      go : (h : Head) → r ≡ h → OneOf (1 ∷ 2 ∷ 3 ∷ []) (tag_of the_type h) → no_free m s ≡ true
+      go (Head·case.Free n) e (inl k) = absurd (omega arith)
+      go (Head·case.Free n) e (inr (inl k)) = absurd (omega arith)
+      go (Head·case.Free n) e (inr (inr k)) = absurd (omega arith)
+      go (Head·case.Leaf n) e k = leaf-not n e
+      go (Head·case.List n) e k = list-not n e
+      go (Head·case.Refused q) e k = (refused-not q e).0
 
 -- the call
 module _ (m : List ℕ) (s : ℕ) (at : s ≡ free_of m) (r : Head) (promise : held r ≡ head_of m s) where

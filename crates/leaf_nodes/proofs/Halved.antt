@@ -12,18 +12,20 @@ use Rattle.answer.specs.Answers.{sides}
 use Rattle.answer.specs.declared.Refusal.{Refusal}
 use Rattle.answer.specs.declared.Sides.{Sides}
 use Rattle.answer.specs.declared.Sides.TheVariants as Sides·case
+use Rattle.answer.specs.declared.Verdict.{Verdict}
 use Rattle.leaf_bytes.specs.Leaf.{laid, Leaves}
 use Rattle.leaf_bytes.proofs.Opened.{never}
 use Rattle.leaf_bytes.proofs.Rules.{leaves-same}
 use Rattle.node_text.specs.Texts.{inserted_split}
 use Rattle.node_text.proofs.Texts.{inserted-split-texts}
 use Rattle.pool.specs.Slot.{slot_start, region_of, head_put}
-use Rattle.pool.specs.Calls.{outside}
+use Rattle.pool.specs.Calls.{outside, head_set, Wrote}
 use Rattle.pool.proofs.Slots.{region-length, region-lent}
 use Rattle.nodes.specs.Node.{leaf_put}
 use Rattle.nodes.specs.Calls.{LeavesWrote}
 use Rattle.nodes.proofs.Heads.{not-outside}
-use Rattle.nodes.proofs.Laid.{GaveTwo, gave-two, lent_same, lent-put, lent-size}
+use Rattle.nodes.proofs.Laid.{GaveTwo, gave-two, lent_same, leaf-made, lent-put, lent-size}
+use Rattle.nodes.proofs.Put.{leaf-size}
 
 -- of the region for the right side only its length counts
 rooms : (region : List ℕ) (n i : ℕ) (piece x y : List ℕ) → length x ≡ length y → inserted_split region n i piece x ≡ inserted_split region n i piece y
@@ -81,6 +83,12 @@ module _ (m : List ℕ) (s : ℕ) (h : slot_start s + 640 ≤ length m) (a end :
     -- the memory with the region back, before the heads are set
     pub back-there : (t : ℕ) → slot_start t + 640 ≤ length m → outside back t ≡ false
     back-there t o = not-outside back t (omega (arith, lent-size m s h a end f g two.text y left-small left_laid))
+
+    -- and with the head of the left leaf set too
+    pub right_there : (v : Verdict) (after : List ℕ) → Wrote (head_set back s 1 l 512 0) back v after → outside after right ≡ false
+    right_there v after w =
+        let made : after ≡ leaf_put m s two.text = leaf-made m s h a end f g two.text y v after left-small left_laid (subst (λ (j : ℕ). Wrote (head_set back s 1 j 512 0) back v after) (sym two.size) w) in
+        not-outside after right (omega (arith, ap length made, leaf-size m s two.text h left-small))
 
     left-made : head_put back s 1 l 0 ≡ leaf_put m s two.text
     left-made =

@@ -1,8 +1,9 @@
 -- Answers opened, call after call: what a verdict says of the outcome that it tells, and how a promise is met.
 use mathlib.Core.Path.{◌≡◌, refl, sym, ap, subst, ◌∙◌}
-use mathlib.Core.Bool.{Bool}
+use mathlib.Core.Bool.{Bool, true, false, cond}
 use mathlib.Core.List.{List}
 use Prim.Native.Nat.{ℕ}
+use lib.Dec.{eqb}
 use Rattle.plain.specs.Outcome.{Outcome, Outcome.value, Outcome.refused, kept, mapped}
 use Rattle.answer.specs.Answers.{refusal_number, verdict, truth}
 use Rattle.answer.specs.declared.Refusal.{Refusal}
@@ -20,7 +21,7 @@ use Rattle.node_children.specs.declared.Two.{Two}
 use Rattle.node_children.specs.Kids.{Listing, Taking, Parting}
 use Rattle.merge.specs.Join.{Joined}
 use Rattle.list_calls.specs.declared.Reply.{Reply}
-use Rattle.list_calls.specs.Asked.{Five, none, told, reply, and_then, read, said, Replied}
+use Rattle.list_calls.specs.Asked.{Five, none, told, reply, and_then, placed, read, said, Replied}
 
 -- ── a verdict ──
 
@@ -51,6 +52,31 @@ pub two : (o : Outcome (NodeChildren × NodeChildren)) (a b : NodeChildren) (r :
     → o ≡ value (r.left, r.right)
 two (value (c, d)) a b r w e = let x = w.left-list in let y = w.right-list in cc
 two (refused n) a b r w e = absurd (never n tt (sym w.answered ∙ e))
+
+-- ── where the second list may have no slot ──
+
+pub placed-told : {A : Type 0} (t s : Bool) (o : Outcome A) (v w : Verdict) → t ≡ s → verdict v ≡ bare o → verdict w ≡ placed t (verdict v)
+    → verdict w ≡ bare (placed s o)
+unfolding placed
+placed-told {A} t s o v w f p e = e ∙ ap (λ (x : Bool). placed x (verdict v)) f ∙ ap (placed s) p ∙ go s o
+  where
+    go : (s : Bool) (o : Outcome A) → placed s (bare o) ≡ bare (placed s o)
+    go false o = refl
+    go true (value a) = refl
+    go true (refused n) = refl
+
+pub placed-two : (t s : Bool) (o : Outcome (NodeChildren × NodeChildren)) (a b : NodeChildren) (r : Two) (w : Verdict) → t ≡ s → Parting o a b r
+    → verdict w ≡ placed t (verdict r.verdict) → w ≡ Verdict·case.Accepted → placed s o ≡ value (r.left, r.right)
+unfolding placed
+placed-two t s o a b r w f p e g = go s (sym (ap (λ (x : Bool). placed x (verdict r.verdict)) f) ∙ sym e ∙ ap verdict g)
+  where
+    lost : (x : Outcome (Unit {0})) → placed true x ≡ value tt → ⊥
+    lost (value u) h = never 2 tt h
+    lost (refused n) h = never (cond (eqb n 12) 12 2) tt h
+
+    go : (s : Bool) → placed s (verdict r.verdict) ≡ value tt → placed s o ≡ value (r.left, r.right)
+    go false h = two o a b r p h
+    go true h = absurd (lost (verdict r.verdict) h)
 
 -- ── calls after one another ──
 

@@ -8,16 +8,17 @@ use lib.ListN.{length, get_or, take, drop, set, length-drop}
 use lib.Seq.{drop-cons, drop-length, take-suc-set, drop-set-lt}
 use Rattle.plain.specs.Place.{bytes, units}
 use Rattle.plain.specs.Count.{lines, line_at}
-use Rattle.plain.specs.Outcome.{Outcome, Outcome.value, Outcome.refused, ruled}
+use Rattle.plain.specs.Outcome.{Outcome, Outcome.value, Outcome.refused, ruled, mapped, kept}
 use Rattle.plain.proofs.Outcome.{clash}
 use Rattle.plain_note.specs.Note.{Note, Mark, Mark.free, Mark.at, most_by}
-use Rattle.plain_calls.specs.Marks.{is_free, place_in, mark_of, standing}
+use Rattle.plain_calls.specs.Marks.{is_free, place_in, mark_of, standing, line_beside}
 use Rattle.answer.specs.Answers.{refusal_number, number}
 use Rattle.answer.specs.declared.Refusal.{Refusal}
 use Rattle.answer.specs.declared.Number.{Number}
 use Rattle.answer.specs.declared.Number.TheVariants as Number·case
 use Rattle.note_head.specs.Head.{root_of, own_of}
-use Rattle.memory.specs.Formed.{well_formed, note_of}
+use Rattle.memory.specs.Formed.{well_formed, note_of, of_note}
+use Rattle.memory.proofs.Formed.{note-called}
 use Rattle.marks.specs.MarkBytes.{standing_in}
 use Rattle.marks.proofs.Written.{marks-length}
 use Rattle.note_counts.specs.Counts.{most_in}
@@ -26,8 +27,13 @@ use Rattle.note_counts.proofs.Rules.{head-told}
 use Rattle.note_promise.proofs.MarkCalls.{standing-is}
 use Rattle.pool.specs.declared.Kid.{Kid}
 use Rattle.listing_lines.specs.Puts.{Laid}
-use Rattle.plain_journal.specs.Listing.{mark_row, mark_rows, totals_line, ending}
+use Rattle.plain_journal.specs.Listing.{mark_line, mark_row, mark_rows, totals_line, ending}
 use Rattle.listing_end.specs.MarkLines.{place_row, places, lines_of, Due}
+
+-- ── a number of the note ──
+
+pub told : (m : List ℕ) → well_formed m ≡ true → (f : Note → ℕ) (a : Outcome ℕ) → a ≡ of_note m (λ N. value (f N)) → kept 0 a ≡ f (note_of m)
+told m ok f a e = ap (kept 0) (e ∙ note-called m (λ N. value (f N)) ok)
 
 -- ── a mark as it is read ──
 
@@ -55,6 +61,16 @@ module _ (m : List ℕ) (k : ℕ) (r : Number) (promise : number r ≡ standing_
   pub mark-live : (p : ℕ) → r ≡ Number·case.Is p → mark_of (note_of m) k ≡ at p
   mark-live p e = stands_live (mark_of (note_of m) k) p (stood ∙ ap number e)
 
+-- the row of a live mark, from its place and its line
+module _ (m : List ℕ) (ok : well_formed m ≡ true) (k : ℕ) where
+  pub row-live : (p : ℕ) (l : Outcome ℕ) → value p ≡ of_note m (λ N. standing N k) → l ≡ of_note m (λ N. line_beside N k)
+      → mark_line k p (kept 0 l) ≡ mark_row (note_of m).text k (mark_of (note_of m) k)
+  unfolding standing line_beside
+  row-live p l e f =
+      let here : stands (mark_of (note_of m) k) ≡ value p = sym (e ∙ note-called m (λ N. standing N k) ok) in
+      let line : l ≡ value (line_at (note_of m).text p) = f ∙ note-called m (λ N. line_beside N k) ok ∙ ap (mapped (line_at (note_of m).text)) here in
+      ap (λ (o : Outcome ℕ). mark_line k p (kept 0 o)) line ∙ sym (ap (mark_row (note_of m).text k) (stands_live (mark_of (note_of m) k) p here))
+
 pub marks-256 : (m : List ℕ) → length (note_of m).marks ≡ 256
 marks-256 m = marks-length (own_of m) 0 256
 
@@ -63,6 +79,9 @@ marks-256 m = marks-length (own_of m) 0 256
 module _ (all : ℕ → List Mark → List ℕ) (marks : List Mark) where
   abbrev pub Rows : ℕ → List ℕ → Type 0
   Rows k put = all 0 marks ≡ put ++ all k (drop k marks)
+
+  pub rows_start : Rows 0 []
+  rows_start = refl
 
   pub rows-turn : (row : ℕ → Mark → List ℕ) → ((k : ℕ) (x : Mark) (xs : List Mark) → all k (x ∷ xs) ≡ row k x ++ all (suc k) xs)
       → (k : ℕ) (put : List ℕ) → k < length marks → Rows k put → Rows (k + 1) (put ++ row k (get_or marks k free))

@@ -3,3 +3,4 @@ pub mod Part
 pub mod Table
 pub mod Laid
 pub mod Written
+pub mod Fields

@@ -29,9 +29,10 @@ use Rattle.pool.specs.Slot.{slot_start, len_of, next_of, no_kid}
 use Rattle.pool.specs.Calls.{Wrote}
 use Rattle.node_children.specs.declared.NodeChildren.{NodeChildren}
 use Rattle.node_children.specs.declared.Listed.{Listed}
-use Rattle.node_children.specs.Kids.{kids, list_of, Listing}
+use Rattle.node_children.specs.Kids.{Holds, kids, list_of, Listing}
 use Rattle.node_children.specs.Calls.{pushed}
-use Rattle.node_children.proofs.Lists.{is-kids}
+use Rattle.node_children.proofs.Lists.{kids-of, is-kids, clean-length}
+use Rattle.node_children.proofs.Holding.{pushed-holds}
 use Rattle.node_children.proofs.Rules.{pushed-done}
 use Rattle.nodes.specs.Node.{is_list, children_of, too_wide, narrowed, total_of, list_put}
 use Rattle.nodes.specs.Calls.{loaded, stored, Fitted, list_counted}
@@ -209,6 +210,23 @@ module _ (a b : Kid) (c : NodeChildren) (r : Listed) (e : c ≡ list_of []) (p :
         answered = q.answered ∙ ap (mapped (λ x. tt)) o;
         list = q.list ∙ ap (kept r.list) o ∙ ap (λ (x : List Kid). list_of (x ++ (b ∷ []))) (is-kids r.list (a ∷ []) one);
       }
+
+-- both pushed, the list holds them
+module _ (a b : Kid) (c : NodeChildren) (r s : Listed) (e : c ≡ list_of []) (p : Listing (pushed c a) c r) (q : Listing (pushed r.list b) r.list s) where
+  first : r.list ≡ list_of (a ∷ [])
+  first = one a b c r e p
+
+  first-len : r.list.len ≡ 1
+  first-len = ap (λ (x : NodeChildren). x.len) first ∙ list-len (a ∷ [])
+
+  pub two : Holds s.list (r.list.len + 1) (kids r.list ++ (b ∷ []))
+  two = pushed-holds r.list (clean-length r.list (first ∙ ap list_of (sym (is-kids r.list (a ∷ []) first)))) b s (omega (arith, first-len)) q
+
+  pub two-few : s.list.len < 16
+  two-few = omega (arith, first-len, two.len)
+
+  pub two-are : kids s.list ≡ a ∷ b ∷ []
+  two-are = ap kids two.is ∙ kids-of (kids r.list ++ (b ∷ [])) ∙ ap (λ (x : List Kid). x ++ (b ∷ [])) (is-kids r.list (a ∷ []) first)
 
 module _ (a b : Kid) (r : Listed) (w : Listing (value (list_of (a ∷ b ∷ []))) (list_of []) r) where
   pub pair-never : {X : Type 0} (q : Refusal) → r.verdict ≡ Verdict·case.Refused q → X
