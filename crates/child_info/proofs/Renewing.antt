@@ -1,4 +1,5 @@
 -- What `renew` and `update_child_info` come to when the tests of the code have been passed or not.
+use Rattle.std.specs.Prelude.{Ok, Err}
 use mathlib.Core.Path.{◌≡◌, sym, ap, subst, ◌∙◌}
 use mathlib.Core.Bool.{true, false}
 use mathlib.Core.List.{List}
@@ -6,12 +7,8 @@ use Prim.Native.Nat.{ℕ, ◌≤◌, ◌<◌}
 use native.Mathlib.Omega.{arith}
 use borrow.Author.Tests.{lt-ltb, le-ltb}
 use Rattle.plain.specs.Outcome.{Outcome, Outcome.value, Outcome.refused, past, mapped}
-use Rattle.answer.specs.Answers.{refusal_number}
+use Rattle.answer.specs.Answers.{refusal_number, Answer, outcome}
 use Rattle.answer.specs.declared.Refusal.{Refusal}
-use Rattle.answer.specs.declared.Verdict.{Verdict}
-use Rattle.text_info.specs.Info.{info}
-use Rattle.text_info.specs.declared.Info.{Info}
-use Rattle.text_info.specs.declared.Info.TheVariants as Info·case
 use Rattle.text_info.specs.declared.TextInfo.{TextInfo}
 use Rattle.pool.specs.declared.Kid.{Kid}
 use Rattle.pool.specs.Slot.{len_of, kid_put}
@@ -23,7 +20,7 @@ use Rattle.child_info.specs.Renewed.{slot_at, renewing}
 use Rattle.child_info.specs.Calls.{after, updated}
 
 -- a promise met by another call
-pub wrote-same : (o q : Outcome (List ℕ)) (before : List ℕ) (r : Verdict) (end : List ℕ) → q ≡ o → Wrote q before r end → Wrote o before r end
+pub wrote-same : (o q : Outcome (List ℕ)) (before : List ℕ) (r : Answer (Unit {0})) (end : List ℕ) → q ≡ o → Wrote q before r end → Wrote o before r end
 wrote-same o q before r end e w = subst (λ (x : Outcome (List ℕ)). Wrote x before r end) e w
 
 module _ (m : List ℕ) (p i : ℕ) where
@@ -34,18 +31,18 @@ module _ (m : List ℕ) (p i : ℕ) where
     unfolding kid_set
     entry_set k = two-passed 2 3 (outside m p) (past i 15) (kid_put m p i k) within (past-no i 15 (omega arith))
 
-  module _ (k : Kid) (is : k.slot ≡ slot_at m p i) (t : Info) (told : info t ≡ counted m k.slot) where
-    outcome : info t ≡ counted m (slot_at m p i)
-    outcome = told ∙ ap (counted m) is
+  module _ (k : Kid) (is : k.slot ≡ slot_at m p i) (t : Answer TextInfo) (told : outcome t ≡ counted m k.slot) where
+    says : outcome t ≡ counted m (slot_at m p i)
+    says = told ∙ ap (counted m) is
 
-    pub renew-refused : (q : Refusal) → t ≡ Info·case.Refused q → renewing m p i ≡ refused (refusal_number q)
+    pub renew-refused : (q : Refusal) → t ≡ Err q → renewing m p i ≡ refused (refusal_number q)
     unfolding renewing
-    renew-refused q e = ap (mapped (λ (x : TextInfo). kid_put m p i (record { slot = slot_at m p i; info = x }))) (sym outcome ∙ ap info e)
+    renew-refused q e = ap (mapped (λ (x : TextInfo). kid_put m p i (record { slot = slot_at m p i; info = x }))) (sym says ∙ ap outcome e)
 
-    pub renew-done : (n : TextInfo) → t ≡ Info·case.Is n → renewing m p i ≡ value (kid_put m p i (record { slot = k.slot; info = n }))
+    pub renew-done : (n : TextInfo) → t ≡ Ok n → renewing m p i ≡ value (kid_put m p i (record { slot = k.slot; info = n }))
     unfolding renewing
     renew-done n e =
-        ap (mapped (λ (x : TextInfo). kid_put m p i (record { slot = slot_at m p i; info = x }))) (sym outcome ∙ ap info e)
+        ap (mapped (λ (x : TextInfo). kid_put m p i (record { slot = slot_at m p i; info = x }))) (sym says ∙ ap outcome e)
         ∙ sym (ap (λ (x : ℕ). value (kid_put m p i (record { slot = x; info = n }))) is)
 
   -- ── `update_child_info` ──

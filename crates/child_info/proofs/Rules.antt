@@ -1,4 +1,5 @@
 -- From the tests of the code to the rules of `Calls`: what a list read from its slot is, and what the checks of its children come to.
+use Rattle.std.specs.Prelude.{Ok, Err}
 use mathlib.Core.Path.{◌≡◌, refl, sym, ap, ◌∙◌}
 use mathlib.Core.Bool.{Bool, true, false, not}
 use mathlib.Core.List.{List, [], ◌∷◌, ◌++◌}
@@ -11,9 +12,8 @@ use borrow.Author.Tests.{lt-ltb, le-ltb}
 use Rattle.plain.specs.Outcome.{Outcome, Outcome.value, Outcome.refused, Rule, ruled, kept, mapped}
 use Rattle.plain.proofs.Logic.{and_none}
 use Rattle.plain.proofs.Outcome.{rule-applies}
-use Rattle.answer.specs.Answers.{refusal_number, verdict}
+use Rattle.answer.specs.Answers.{refusal_number, outcome}
 use Rattle.answer.specs.declared.Refusal.{Refusal}
-use Rattle.answer.specs.declared.Verdict.TheVariants.{Accepted, Refused}
 use Rattle.pool.specs.declared.Kid.{Kid}
 use Rattle.pool.specs.Slot.{len_of, region_of, entries, no_kid}
 use Rattle.pool.proofs.Kids.{entries-length}
@@ -37,36 +37,36 @@ pub children-length : (m : List ℕ) (p : ℕ) → is_list m p ≡ true → leng
 children-length m p e = length-take-le (len_of m p) (entries (region_of m p)) (omega (arith, (list-says m p e).2, entries-length (region_of m p)))
 
 module _ (m : List ℕ) (p : ℕ) (r : Listed) (promise : Listing (loaded m p) (list_of []) r) where
-  read : (t : Bool) → is_list m p ≡ t → r.verdict ≡ Accepted → (is_list m p ≡ true) × (r.list ≡ list_of (children_of m p))
+  read : (t : Bool) → is_list m p ≡ t → r.verdict ≡ (Ok tt) → (is_list m p ≡ true) × (r.list ≡ list_of (children_of m p))
   read true e f = (e, promise.list ∙ ap (kept (list_of [])) (loaded-is m p e))
   read false e f =
       absurd
       (let o = loaded-not m p e in
-      let v = sym (ap verdict f) ∙ promise.answered ∙ ap (mapped (λ (_ : NodeChildren). tt)) o in
+      let v = sym (ap outcome f) ∙ promise.answered ∙ ap (mapped (λ (_ : NodeChildren). tt)) o in
       let z : ◌≡◌ {A = ℕ} 0 1 = cc in omega arith)
 
   -- it was a list
-  pub list_read : r.verdict ≡ Accepted → (is_list m p ≡ true) × (r.list ≡ list_of (children_of m p))
+  pub list_read : r.verdict ≡ (Ok tt) → (is_list m p ≡ true) × (r.list ≡ list_of (children_of m p))
   list_read f = read (is_list m p) refl f
 
-  unread : (t : Bool) (q : Refusal) → is_list m p ≡ t → r.verdict ≡ Refused q → (is_list m p ≡ false) × (refusal_number q ≡ 2)
+  unread : (t : Bool) (q : Refusal) → is_list m p ≡ t → r.verdict ≡ Err q → (is_list m p ≡ false) × (refusal_number q ≡ 2)
   unread true q e f =
       absurd
       (let o = loaded-is m p e in
-      let v = sym (ap verdict f) ∙ promise.answered ∙ ap (mapped (λ (_ : NodeChildren). tt)) o in
+      let v = sym (ap outcome f) ∙ promise.answered ∙ ap (mapped (λ (_ : NodeChildren). tt)) o in
       let z : ◌≡◌ {A = ℕ} 0 1 = cc in omega arith)
   unread false q e f =
       let o = loaded-not m p e in
-      let v = sym (ap verdict f) ∙ promise.answered ∙ ap (mapped (λ (_ : NodeChildren). tt)) o in
+      let v = sym (ap outcome f) ∙ promise.answered ∙ ap (mapped (λ (_ : NodeChildren). tt)) o in
       (e, (let z : refusal_number q ≡ 2 = cc in z))
 
   -- it was none
-  pub list-unread : (q : Refusal) → r.verdict ≡ Refused q → (is_list m p ≡ false) × (refusal_number q ≡ 2)
+  pub list-unread : (q : Refusal) → r.verdict ≡ Err q → (is_list m p ≡ false) × (refusal_number q ≡ 2)
   list-unread q f = unread (is_list m p) q refl f
 
   -- and a call that refuses such a slot by 2 passes the refusal on
-  pub unlisted : (o : Outcome (Unit {0})) → (is_list m p ≡ false → o ≡ refused 2) → (q : Refusal) → r.verdict ≡ Refused q → verdict r.verdict ≡ o
-  unlisted o f q e = let u = list-unread q e in ap verdict e ∙ ap (λ (n : ℕ). refused n) u.1 ∙ sym (f u.0)
+  pub unlisted : (o : Outcome (Unit {0})) → (is_list m p ≡ false → o ≡ refused 2) → (q : Refusal) → r.verdict ≡ Err q → outcome r.verdict ≡ o
+  unlisted o f q e = let u = list-unread q e in ap outcome e ∙ ap (λ (n : ℕ). refused n) u.1 ∙ sym (f u.0)
 
 pub clean-read : (c : NodeChildren) (ks : List Kid) → c ≡ list_of ks → c ≡ list_of (kids c)
 clean-read c ks e = e ∙ ap list_of (sym (is-kids c ks e))

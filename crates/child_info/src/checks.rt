@@ -1,17 +1,17 @@
 // What is asked of the children of a list before they are touched.
 ghost use Rattle.std.specs.Prelude.{◌≡◌, ◌<◌, ◌≤◌, drop};
 ghost use Rattle.plain.specs.Outcome.{ruled};
-ghost use Rattle.answer.specs.Answers.{verdict};
+ghost use Rattle.answer.specs.Answers.{outcome};
 ghost use Rattle.node_children.specs.Kids.{kids};
 ghost use Rattle.nodes.specs.Node.{is_leaf, is_list};
 ghost use Rattle.nodes.specs.Calls.{counted};
 ghost use Rattle.child_info.specs.Kin.{refused_by, stale_in, asks_of, some_of, same_info, among, repeats, slots_of, mixed, broken, move_rules};
 
-use answer::{Refusal, Verdict};
+use answer::{Answer, Refusal};
 use node_children::NodeChildren;
 use nodes::text_info;
 use pool::{Head, Kid, head_of};
-use text_info::{Info, TextInfo};
+use text_info::TextInfo;
 
 // A child's node is a leaf; a list; none, or one whose counts cannot be; a leaf that is no text. Or the counts in the list are not the
 // node's.
@@ -44,8 +44,8 @@ fn refused_by(m: &[u8], slot: usize, number: u8) -> bool
     ensures { result ≡ refused_by number (counted m.now slot) }
 {
     match text_info(m, slot) {
-        Info::Refused(r) => answer::number_of(r) == number,
-        Info::Is(_) => false,
+        Err(r) => u8::from(r) == number,
+        Ok(_) => false,
     }
 }
 
@@ -53,31 +53,27 @@ fn stale(m: &[u8], kid: Kid) -> bool
     ensures { result ≡ stale_in m.now kid }
 {
     match text_info(m, kid.slot as usize) {
-        Info::Refused(_) => true,
-        Info::Is(info) => !same_info(kid.info, info),
+        Err(_) => true,
+        Ok(info) => !same_info(kid.info, info),
     }
 }
 
 fn leaf(m: &[u8], slot: usize) -> bool
     ensures { result ≡ is_leaf m.now slot }
 {
-    match head_of(m, slot) {
-        Head::Leaf(_) => true,
-        Head::List(_) => false,
-        Head::Free(_) => false,
-        Head::Refused(_) => false,
-    }
+    let Ok(head) = head_of(m, slot) else {
+        return false;
+    };
+    matches!(head, Head::Leaf(_))
 }
 
 fn list(m: &[u8], slot: usize) -> bool
     ensures { result ≡ is_list m.now slot }
 {
-    match head_of(m, slot) {
-        Head::List(_) => true,
-        Head::Leaf(_) => false,
-        Head::Free(_) => false,
-        Head::Refused(_) => false,
-    }
+    let Ok(head) = head_of(m, slot) else {
+        return false;
+    };
+    matches!(head, Head::List(_))
 }
 
 fn asks(m: &[u8], kid: Kid, q: Ask) -> bool
@@ -172,18 +168,18 @@ fn breaks(m: &[u8], slot: usize, list: NodeChildren) -> bool
 
 // Whether children of the list in a slot may be moved: refused by 12 where they are of different kinds, by 2 where one is no node or a
 // slot occurs twice, by 5 where one is a leaf that is no text.
-pub(crate) fn checked(m: &[u8], slot: usize, list: NodeChildren) -> Verdict
+pub(crate) fn checked(m: &[u8], slot: usize, list: NodeChildren) -> Answer<()>
     requires { list.len ≤ 16 }
-    ensures { verdict result ≡ ruled (move_rules m.now slot (kids list)) tt }
+    ensures { outcome result ≡ ruled (move_rules m.now slot (kids list)) tt }
 {
     if mixes(m, list) {
-        return Verdict::Refused(Refusal::Side);
+        return Err(Refusal::Side);
     }
     if breaks(m, slot, list) {
-        return Verdict::Refused(Refusal::Memory);
+        return Err(Refusal::Memory);
     }
     if some(m, list, Ask::Ill) {
-        return Verdict::Refused(Refusal::Text);
+        return Err(Refusal::Text);
     }
-    Verdict::Accepted
+    Ok(())
 }

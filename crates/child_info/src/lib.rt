@@ -7,38 +7,35 @@ mod checks;
 
 ghost use Rattle.std.specs.Prelude.{◌≡◌, true, [], ◌∷◌, ◌<◌, ◌≤◌};
 ghost use Rattle.plain.specs.Outcome.{ruled};
-ghost use Rattle.answer.specs.Answers.{truth, verdict};
+ghost use Rattle.answer.specs.Answers.{outcome};
 ghost use Rattle.node_children.specs.Kids.{kids, list_of};
 ghost use Rattle.nodes.specs.Node.{is_list, children_of};
 ghost use Rattle.child_info.specs.Kin.{pair_at};
 ghost use Rattle.child_info.specs.Calls.{accurate, all_rules, pair_rules};
 
-use answer::{Refusal, Truth, Verdict};
+use answer::{Answer, Refusal};
 use checks::{Ask, checked, some};
 use node_children::NodeChildren;
 use nodes::load;
 use pool::Kid;
 
 // Whether the children of a list that was read from its slot may be moved.
-fn check_list(m: &[u8], slot: usize, list: NodeChildren) -> Verdict
+fn check_list(m: &[u8], slot: usize, list: NodeChildren) -> Answer<()>
     requires { (is_list m.now slot ≡ true) × (list ≡ list_of (children_of m.now slot)) }
-    ensures { verdict result ≡ ruled (all_rules m.now slot) tt }
+    ensures { outcome result ≡ ruled (all_rules m.now slot) tt }
 {
     if list.len == 0 {
-        return Verdict::Refused(Refusal::Side);
+        return Err(Refusal::Side);
     }
     checked(m, slot, list)
 }
 
 // Whether all children of a list may be moved.
-pub fn check_all(m: &[u8], slot: usize) -> Verdict
-    ensures { verdict result ≡ ruled (all_rules m.now slot) tt }
+pub fn check_all(m: &[u8], slot: usize) -> Answer<()>
+    ensures { outcome result ≡ ruled (all_rules m.now slot) tt }
 {
     let found = load(m, slot);
-    let may = found.verdict;
-    let Verdict::Accepted = may else {
-        return may;
-    };
+    found.verdict?;
     check_list(m, slot, found.list)
 }
 
@@ -62,57 +59,52 @@ fn pair_of(list: NodeChildren, idx1: usize, idx2: usize) -> NodeChildren
 }
 
 // Whether two children of a list that was read from its slot may be moved.
-fn check_two(m: &[u8], slot: usize, list: NodeChildren, idx1: usize, idx2: usize) -> Verdict
+fn check_two(m: &[u8], slot: usize, list: NodeChildren, idx1: usize, idx2: usize) -> Answer<()>
     requires { (is_list m.now slot ≡ true) × (list ≡ list_of (children_of m.now slot)) }
-    ensures { verdict result ≡ ruled (pair_rules m.now slot idx1 idx2) tt }
+    ensures { outcome result ≡ ruled (pair_rules m.now slot idx1 idx2) tt }
 {
     let n = list.len;
     if n == 0 {
-        return Verdict::Refused(Refusal::Side);
+        return Err(Refusal::Side);
     }
     if idx2 <= idx1 {
-        return Verdict::Refused(Refusal::Place);
+        return Err(Refusal::Place);
     }
     if n <= idx2 {
-        return Verdict::Refused(Refusal::Place);
+        return Err(Refusal::Place);
     }
     checked(m, slot, pair_of(list, idx1, idx2))
 }
 
 // Whether two children of a list may be merged, or distribute what they hold.
-pub fn check_pair(m: &[u8], slot: usize, idx1: usize, idx2: usize) -> Verdict
-    ensures { verdict result ≡ ruled (pair_rules m.now slot idx1 idx2) tt }
+pub fn check_pair(m: &[u8], slot: usize, idx1: usize, idx2: usize) -> Answer<()>
+    ensures { outcome result ≡ ruled (pair_rules m.now slot idx1 idx2) tt }
 {
     let found = load(m, slot);
-    let may = found.verdict;
-    let Verdict::Accepted = may else {
-        return may;
-    };
+    found.verdict?;
     check_two(m, slot, found.list, idx1, idx2)
 }
 
 // Whether the counts of a list that was read from its slot are right.
-fn accurate_in(m: &[u8], slot: usize, list: NodeChildren) -> Truth
+fn accurate_in(m: &[u8], slot: usize, list: NodeChildren) -> Answer<bool>
     requires { (is_list m.now slot ≡ true) × (list ≡ list_of (children_of m.now slot)) }
-    ensures { truth result ≡ accurate m.now slot }
+    ensures { outcome result ≡ accurate m.now slot }
 {
     if some(m, list, Ask::Lost) {
-        return Truth::Refused(Refusal::Memory);
+        return Err(Refusal::Memory);
     }
     if some(m, list, Ask::Ill) {
-        return Truth::Refused(Refusal::Text);
+        return Err(Refusal::Text);
     }
-    Truth::Is(!some(m, list, Ask::Stale))
+    Ok(!some(m, list, Ask::Stale))
 }
 
 // Whether every child's counts are those of what lies below it.
-pub fn is_info_accurate(m: &[u8], slot: usize) -> Truth
-    ensures { truth result ≡ accurate m.now slot }
+pub fn is_info_accurate(m: &[u8], slot: usize) -> Answer<bool>
+    ensures { outcome result ≡ accurate m.now slot }
 {
     let found = load(m, slot);
     let may = found.verdict;
-    match may {
-        Verdict::Refused(r) => Truth::Refused(r),
-        Verdict::Accepted => accurate_in(m, slot, found.list),
-    }
+    may?;
+    accurate_in(m, slot, found.list)
 }

@@ -1,4 +1,5 @@
 -- What the sums and searches come to when the tests of the code have been passed or not.
+use Rattle.std.specs.Prelude.{Ok, Err}
 use mathlib.Core.Path.{◌≡◌, sym, ap, ◌∙◌}
 use mathlib.Core.Bool.{Bool, false, ◌||◌}
 use mathlib.Core.List.{[], ◌∷◌}
@@ -9,17 +10,15 @@ use lib.ListN.{drop}
 use Rattle.plain.specs.Outcome.{Outcome, Outcome.value, Outcome.refused, past, mapped}
 use Rattle.plain.proofs.Logic.{or_left, or_right, or-none}
 use Rattle.plain.proofs.Outcome.{rule-applies, one-applies, one-passed}
-use Rattle.answer.specs.Answers.{refusal_number}
+use Rattle.answer.specs.Answers.{refusal_number, Answer, outcome}
 use Rattle.answer.specs.declared.Refusal.{Refusal}
 use Rattle.text_info.specs.Info.{zeros}
 use Rattle.text_info.specs.declared.TextSum.{TextSum}
 use Rattle.node_children.specs.declared.NodeChildren.{NodeChildren}
-use Rattle.child_search.specs.declared.Found.{Found}
-use Rattle.child_search.specs.declared.Found.TheVariants.{At, Refused}
 use Rattle.child_search.specs.declared.Measure.{Measure}
 use Rattle.child_search.specs.declared.Measure.TheVariants.{Chars, CharEnds}
 use Rattle.node_children.specs.Kids.{kids}
-use Rattle.child_search.specs.Sought.{found, total, combined, stops_at, most_of, search_from, found_by, searched, chars_of, end_from, range_of, searched_range, Sought}
+use Rattle.child_search.specs.Sought.{total, combined, stops_at, most_of, search_from, found_by, searched, chars_of, end_from, range_of, searched_range, Sought}
 use Rattle.node_children.proofs.Rules.{none-yes, none-no, past-yes, past-no, three-second, three_third, three-passed}
 
 -- ── `combined_info` ──
@@ -69,12 +68,12 @@ module _ (c : NodeChildren) (m : Measure) (at : ℕ) where
 
 -- ── with the chars alone ──
 
-module _ (f : Found) (o : Outcome (ℕ × TextSum)) (promise : found f ≡ o) where
-  pub only-refused : (q : Refusal) → f ≡ Refused q → refused (refusal_number q) ≡ mapped chars_of o
-  only-refused q e = ap (mapped chars_of) (sym (ap found e) ∙ promise)
+module _ (f : Answer (ℕ × TextSum)) (o : Outcome (ℕ × TextSum)) (promise : outcome f ≡ o) where
+  pub only-refused : (q : Refusal) → f ≡ Err q → refused (refusal_number q) ≡ mapped chars_of o
+  only-refused q e = ap (mapped chars_of) (sym (ap outcome e) ∙ promise)
 
-  pub only-found : (i : ℕ) (s : TextSum) → f ≡ At i s → value (i, s.chars) ≡ mapped chars_of o
-  only-found i s e = ap (mapped chars_of) (sym (ap found e) ∙ promise)
+  pub only-found : (i : ℕ) (s : TextSum) → f ≡ Ok (i, s) → value (i, s.chars) ≡ mapped chars_of o
+  only-found i s e = ap (mapped chars_of) (sym (ap outcome e) ∙ promise)
 
 -- ── a range ──
 

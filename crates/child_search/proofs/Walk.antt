@@ -1,4 +1,5 @@
 -- A search that adds the children up one by one and stops at the one found: what it has not read needs no test, for sums only grow.
+use Rattle.std.specs.Prelude.{Ok, Err}
 use mathlib.Core.Path.{◌≡◌, refl, sym, ap, ◌∙◌}
 use mathlib.Core.Bool.{true, false}
 use mathlib.Core.List.{List, [], ◌∷◌}
@@ -11,10 +12,8 @@ use borrow.Author.Tests.{le-ltb, ltb-true, leb-true}
 use Rattle.plain.specs.Outcome.{Outcome, Outcome.value, Outcome.refused, Rule, ruled, past}
 use Rattle.plain.proofs.Logic.{cut}
 use Rattle.plain.proofs.Outcome.{rule-applies, rule-passed, one-applies, one-passed, passed, more-refused, more-passed}
-use Rattle.answer.specs.Answers.{refusal_number, number}
+use Rattle.answer.specs.Answers.{refusal_number, Answer, outcome}
 use Rattle.answer.specs.declared.Refusal.{Refusal}
-use Rattle.answer.specs.declared.Number.{Number}
-use Rattle.answer.specs.declared.Number.TheVariants as Number·case
 use Rattle.text_info.specs.Info.{zeros}
 use Rattle.text_info.specs.declared.TextInfo.{TextInfo}
 use Rattle.text_info.specs.declared.TextSum.{TextSum}
@@ -28,11 +27,9 @@ use Rattle.node_children.specs.Kids.{list_of}
 use Rattle.node_children.specs.Calls.{too_long}
 use Rattle.node_children.proofs.Lists.{kids-of}
 use Rattle.node_children.proofs.Rules.{none-yes, none-no, past-yes, past-no}
-use Rattle.child_search.specs.declared.Found.{Found}
-use Rattle.child_search.specs.declared.Found.TheVariants as Found·case
 use Rattle.child_search.specs.declared.Measure.{Measure}
 use Rattle.child_search.specs.declared.Measure.TheVariants.{Bytes, Chars, Utf16, Breaks, CharEnds}
-use Rattle.child_search.specs.Sought.{found, plus_info, sum_from, first_in, total, Within, Plus, stops_at, most_of, search_from, found_by, searched, searched_in}
+use Rattle.child_search.specs.Sought.{plus_info, sum_from, first_in, total, Within, Plus, stops_at, most_of, search_from, found_by, searched, searched_in}
 use Rattle.child_search.proofs.Sums.{within_none, within-plus, sum-turn, sum-end, hit, on, last}
 use Rattle.child_search.proofs.Rules.{searched-past, searched-done}
 
@@ -148,15 +145,15 @@ module _ (m : List ℕ) (s n : ℕ) (by : Measure) (at : ℕ) where
   unfolding searched_in
   in-none h = sym (rule-applies 12 (eqb n 0) later (found_by by at (first_in m s n)) (none-yes n h))
 
-  module _ (r : Number) (promise : number r ≡ region_start m s) where
-    pub in-refused : (q : Refusal) → 0 < n → r ≡ Number·case.Refused q → refused (refusal_number q) ≡ searched_in m s n by at
+  module _ (r : Answer ℕ) (promise : outcome r ≡ region_start m s) where
+    pub in-refused : (q : Refusal) → 0 < n → r ≡ Err q → refused (refusal_number q) ≡ searched_in m s n by at
     unfolding region_start searched_in
     in-refused q h e =
         sym
         (rule-passed 12 (eqb n 0) later (found_by by at (first_in m s n)) (none-no n h)
-        ∙ more-refused ((2, outside m s) ∷ []) (ask (first_in m s n) ∷ too_long n ∷ []) (slot_start s + 128) (found_by by at (first_in m s n)) (refusal_number q) (sym promise ∙ ap number e))
+        ∙ more-refused ((2, outside m s) ∷ []) (ask (first_in m s n) ∷ too_long n ∷ []) (slot_start s + 128) (found_by by at (first_in m s n)) (refusal_number q) (sym promise ∙ ap outcome e))
 
-    pub in-inside : (a : ℕ) → r ≡ Number·case.Is a → outside m s ≡ false
+    pub in-inside : (a : ℕ) → r ≡ Ok a → outside m s ≡ false
     in-inside a e = le-ltb _ _ (region-opened r m s a promise e).0
 
   -- THEOREM: in a slot of the memory, among at most sixteen entries, it is the search in the list of these
@@ -169,8 +166,8 @@ module _ (m : List ℕ) (s n : ℕ) (by : Measure) (at : ℕ) where
       here ∙ ap (λ (k : ℕ). sought k ks) (sym len) ∙ ap (sought (list_of ks).len) (sym (kids-of ks))
 
 -- what was found among the entries that there are, and how many were asked for
-module _ (m : List ℕ) (s n : ℕ) (by : Measure) (at k : ℕ) (held : k ≡ min n 16) (some : 0 < n) (there : outside m s ≡ false) (f : Found)
-    (promise : found f ≡ searched (list_of (first_in m s k)) by at)
+module _ (m : List ℕ) (s n : ℕ) (by : Measure) (at k : ℕ) (held : k ≡ min n 16) (some : 0 < n) (there : outside m s ≡ false) (f : Answer (ℕ × TextSum))
+    (promise : outcome f ≡ searched (list_of (first_in m s k)) by at)
   where
     abbrev v : ℕ × TextSum
     v = found_by by at (first_in m s n)
@@ -182,27 +179,27 @@ module _ (m : List ℕ) (s n : ℕ) (by : Measure) (at k : ℕ) (held : k ≡ mi
         all j h = take_all j (entries (region_of m s)) (omega (arith, entries-length (region_of m s)))
 
     -- whether the list is too long is not asked yet
-    early : found f ≡ ruled (first m s n by at) v
+    early : outcome f ≡ ruled (first m s n by at) v
     unfolding searched_in ruled
     early =
         promise
         ∙ sym (few-is m s k by at there (omega arith))
         ∙ rw (past-no k 16 (omega arith), none-no k (omega arith), none-no n some, same)
 
-    pub in-past : (q : Refusal) → f ≡ Found·case.Refused q → found f ≡ searched_in m s n by at
+    pub in-past : (q : Refusal) → f ≡ Err q → outcome f ≡ searched_in m s n by at
     unfolding searched_in
-    in-past q e = ap found e ∙ sym (more-refused (first m s n by at) (too_long n ∷ []) v v (refusal_number q) (sym early ∙ ap found e))
+    in-past q e = ap outcome e ∙ sym (more-refused (first m s n by at) (too_long n ∷ []) v v (refusal_number q) (sym early ∙ ap outcome e))
 
-    module _ (i : ℕ) (l : TextSum) (e : f ≡ Found·case.At i l) where
+    module _ (i : ℕ) (l : TextSum) (e : f ≡ Ok (i, l)) where
       rest : searched_in m s n by at ≡ ruled (too_long n ∷ []) v
       unfolding searched_in
-      rest = more-passed (first m s n by at) (too_long n ∷ []) v (i, l) v (sym early ∙ ap found e)
+      rest = more-passed (first m s n by at) (too_long n ∷ []) v (i, l) v (sym early ∙ ap outcome e)
 
       pub in-long : 16 < n → refused 11 ≡ searched_in m s n by at
       in-long h = sym (rest ∙ one-applies 11 (past n 16) v (past-yes n 16 h))
 
-      pub in-few : n ≤ 16 → found f ≡ searched_in m s n by at
+      pub in-few : n ≤ 16 → outcome f ≡ searched_in m s n by at
       in-few h =
-          ap found e
-          ∙ ap (λ (x : ℕ × TextSum). value x) (passed (first m s n by at) v (i, l) (sym early ∙ ap found e)).1
+          ap outcome e
+          ∙ ap (λ (x : ℕ × TextSum). value x) (passed (first m s n by at) v (i, l) (sym early ∙ ap outcome e)).1
           ∙ sym (rest ∙ one-passed 11 (past n 16) v (past-no n 16 h))

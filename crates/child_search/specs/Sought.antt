@@ -1,7 +1,7 @@
 -- Sums of the children's counts, and the searches by them.
-use Rattle.std.specs.Prelude.{◌≡◌, Bool, true, false, ◌||◌, cond, List, [], ◌∷◌, ℕ, ◌+◌, ◌*◌, ◌≤◌, ◌<◌, ltb, leb, eqb, take, drop}
+use Rattle.std.specs.Prelude.{◌≡◌, Bool, true, false, ◌||◌, cond, List, [], ◌∷◌, ℕ, ◌+◌, ◌*◌, ◌≤◌, ◌<◌, ltb, leb, eqb, take, drop, Ok, Err}
 use Rattle.plain.specs.Outcome.{Outcome, Outcome.value, Outcome.refused, ruled, past}
-use Rattle.answer.specs.Answers.{refusal_number}
+use Rattle.answer.specs.Answers.{refusal_number, Answer}
 use Rattle.text_info.specs.Info.{zeros}
 use Rattle.text_info.specs.declared.TextInfo.{TextInfo}
 use Rattle.text_info.specs.declared.TextSum.{TextSum}
@@ -9,36 +9,12 @@ use Rattle.pool.specs.declared.Kid.{Kid}
 use Rattle.pool.specs.Slot.{region_of, entries}
 use Rattle.pool.specs.Calls.{outside}
 use Rattle.node_children.specs.declared.NodeChildren.{NodeChildren}
-use Rattle.child_search.specs.declared.Sum.{Sum}
-use Rattle.child_search.specs.declared.Sum.TheVariants as Sum·case
-use Rattle.child_search.specs.declared.Found.{Found}
-use Rattle.child_search.specs.declared.Found.TheVariants as Found·case
-use Rattle.child_search.specs.declared.FoundChars.{FoundChars}
-use Rattle.child_search.specs.declared.FoundChars.TheVariants as FoundChars·case
-use Rattle.child_search.specs.declared.FoundRange.{FoundRange}
-use Rattle.child_search.specs.declared.FoundRange.TheVariants as FoundRange·case
 use Rattle.child_search.specs.declared.Measure.{Measure}
 use Rattle.child_search.specs.declared.Measure.TheVariants.{Bytes, Chars, Utf16, Breaks, CharEnds}
 use Rattle.node_children.specs.Kids.{kids}
 use Rattle.node_children.specs.Calls.{no_child, too_long}
 
 -- ── the answers on paper ──
-
-abbrev pub sum : Sum → Outcome TextSum
-sum (Sum·case.Is s) = value s
-sum (Sum·case.Refused r) = refused (refusal_number r)
-
-abbrev pub found : Found → Outcome (ℕ × TextSum)
-found (Found·case.At i s) = value (i, s)
-found (Found·case.Refused r) = refused (refusal_number r)
-
-abbrev pub found_chars : FoundChars → Outcome (ℕ × ℕ)
-found_chars (FoundChars·case.At i n) = value (i, n)
-found_chars (FoundChars·case.Refused r) = refused (refusal_number r)
-
-abbrev pub found_range : FoundRange → Outcome ((ℕ × ℕ) × (ℕ × ℕ))
-found_range (FoundRange·case.Are i m j n) = value ((i, m), (j, n))
-found_range (FoundRange·case.Refused r) = refused (refusal_number r)
 
 -- ── sums ──
 
@@ -149,6 +125,6 @@ pub record Sought (c : NodeChildren) (i : ℕ) (s : TextSum) (found : ℕ × Tex
   pub small : Within s i
 
 -- what is found is one of at most 16 children, with sums that those on its left can have
-abbrev pub Small : Found → Type 0
-Small (Found·case.At i s) = (i < 16) × Within s 16
-Small (Found·case.Refused r) = Unit {0}
+abbrev pub Small : Answer (ℕ × TextSum) → Type 0
+Small (Ok (i, s)) = (i < 16) × Within s 16
+Small (Err r) = Unit {0}

@@ -9,7 +9,7 @@ ghost use Rattle.node_children.specs.Kids.{kids, list_of, Parting};
 ghost use Rattle.node_children.specs.Calls.{with_kid, halves, pushed_split, inserted_split, distributed};
 ghost use Rattle.child_split.specs.Moves.{last_out, last_in, first_out, first_in};
 
-use answer::{Refusal, Verdict};
+use answer::{Answer, Refusal};
 use node_children::{MAX_LEN, NodeChildren, Two, not_parted};
 use pool::Kid;
 
@@ -23,18 +23,18 @@ fn split_with(list: NodeChildren, item: Kid) -> Two
     let l_count = n + 1 - r_count;
     let two = list.split_off(l_count);
     let parted = two.verdict;
-    let Verdict::Accepted = parted else {
+    let Ok(()) = parted else {
         return two;
     };
     let more = two.right.push(item);
     let may = more.verdict;
     match may {
-        Verdict::Refused(r) => not_parted(list, r),
-        Verdict::Accepted => {
+        Err(r) => not_parted(list, r),
+        Ok(()) => {
             let left = two.left;
             let right = more.list;
             Two {
-                verdict: Verdict::Accepted,
+                verdict: Ok(()),
                 left: left,
                 right: right,
             }
@@ -64,13 +64,13 @@ fn split_before(list: NodeChildren, idx: usize, item: Kid) -> Two
     let last = list.pop();
     let popped = last.verdict;
     match popped {
-        Verdict::Refused(r) => not_parted(list, r),
-        Verdict::Accepted => {
+        Err(r) => not_parted(list, r),
+        Ok(()) => {
             let more = last.list.insert(idx, item);
             let may = more.verdict;
             match may {
-                Verdict::Refused(r) => not_parted(list, r),
-                Verdict::Accepted => split_with(more.list, last.kid),
+                Err(r) => not_parted(list, r),
+                Ok(()) => split_with(more.list, last.kid),
             }
         }
     }
@@ -101,7 +101,7 @@ fn not_shared(list: NodeChildren, other: NodeChildren, r: Refusal) -> Two
     ensures { Parting (refused (refusal_number r)) list other result }
 {
     Two {
-        verdict: Verdict::Refused(r),
+        verdict: Err(r),
         left: list,
         right: other,
     }
@@ -115,17 +115,17 @@ fn to_right(left: NodeChildren, right: NodeChildren) -> Two
     let last = left.pop();
     let popped = last.verdict;
     match popped {
-        Verdict::Refused(r) => not_shared(left, right, r),
-        Verdict::Accepted => {
+        Err(r) => not_shared(left, right, r),
+        Ok(()) => {
             let more = right.insert(0, last.kid);
             let may = more.verdict;
             match may {
-                Verdict::Refused(r) => not_shared(left, right, r),
-                Verdict::Accepted => {
+                Err(r) => not_shared(left, right, r),
+                Ok(()) => {
                     let fewer = last.list;
                     let longer = more.list;
                     Two {
-                        verdict: Verdict::Accepted,
+                        verdict: Ok(()),
                         left: fewer,
                         right: longer,
                     }
@@ -143,17 +143,17 @@ fn to_left(left: NodeChildren, right: NodeChildren) -> Two
     let first = right.remove(0);
     let removed = first.verdict;
     match removed {
-        Verdict::Refused(r) => not_shared(left, right, r),
-        Verdict::Accepted => {
+        Err(r) => not_shared(left, right, r),
+        Ok(()) => {
             let more = left.push(first.kid);
             let may = more.verdict;
             match may {
-                Verdict::Refused(r) => not_shared(left, right, r),
-                Verdict::Accepted => {
+                Err(r) => not_shared(left, right, r),
+                Ok(()) => {
                     let longer = more.list;
                     let fewer = first.list;
                     Two {
-                        verdict: Verdict::Accepted,
+                        verdict: Ok(()),
                         left: longer,
                         right: fewer,
                     }
@@ -173,7 +173,7 @@ fn level(list: NodeChildren, other: NodeChildren, r_target_len: usize) -> Two
     while right.len < r_target_len {
         let two = to_right(left, right);
         let may = two.verdict;
-        let Verdict::Accepted = may else {
+        let Ok(()) = may else {
             return two;
         };
         left = two.left;
@@ -182,14 +182,14 @@ fn level(list: NodeChildren, other: NodeChildren, r_target_len: usize) -> Two
     while r_target_len < right.len {
         let two = to_left(left, right);
         let may = two.verdict;
-        let Verdict::Accepted = may else {
+        let Ok(()) = may else {
             return two;
         };
         left = two.left;
         right = two.right;
     }
     Two {
-        verdict: Verdict::Accepted,
+        verdict: Ok(()),
         left: left,
         right: right,
     }
@@ -211,13 +211,13 @@ pub fn distribute_with(list: NodeChildren, other: NodeChildren) -> Two
     let ours = list.split_off(n);
     let may = ours.verdict;
     match may {
-        Verdict::Refused(r) => not_shared(list, other, r),
-        Verdict::Accepted => {
+        Err(r) => not_shared(list, other, r),
+        Ok(()) => {
             let theirs = other.split_off(m);
             let too = theirs.verdict;
             match too {
-                Verdict::Refused(r) => not_shared(list, other, r),
-                Verdict::Accepted => level(ours.left, theirs.left, r_target_len),
+                Err(r) => not_shared(list, other, r),
+                Ok(()) => level(ours.left, theirs.left, r_target_len),
             }
         }
     }

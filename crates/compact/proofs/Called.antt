@@ -1,4 +1,5 @@
 -- The paths of `compact_leaves`: what each comes to.
+use Rattle.std.specs.Prelude.{Ok, Err}
 use mathlib.Core.Path.{◌≡◌, refl, sym, ap, subst, ◌∙◌}
 use mathlib.Core.Bool.{Bool, true, false, not, ◌&&◌, cond, true≢false}
 use mathlib.Core.List.{List, []}
@@ -10,11 +11,9 @@ use borrow.Author.Tests.{lt-ltb, le-ltb}
 use Rattle.plain.specs.Outcome.{Outcome, Outcome.value, Outcome.refused, ruled, kept, mapped}
 use Rattle.plain.proofs.Logic.{and_none}
 use Rattle.plain.proofs.Outcome.{one-passed, Known, known}
-use Rattle.answer.specs.Answers.{verdict, refusal_number}
+use Rattle.answer.specs.Answers.{refusal_number, Answer, outcome}
 use Rattle.answer.specs.declared.Refusal.{Refusal}
-use Rattle.answer.specs.declared.Verdict.{Verdict}
-use Rattle.answer.specs.declared.Verdict.TheVariants as Verdict·case
-use Rattle.answer.proofs.Opened.{verdict-never}
+use Rattle.answer.proofs.Opened.{never-refused}
 use Rattle.pool.specs.declared.Kid.{Kid}
 use Rattle.pool.specs.Slot.{no_kid, len_of}
 use Rattle.pool.specs.Calls.{Wrote}
@@ -39,22 +38,22 @@ either false f g x y = y (g refl)
 abbrev pub left : List ℕ → ℕ → List ℕ
 left m p = cond (is_leaf m (slot_in (children_of m p) 0) && ltb 1 (len_of m p)) (compacted_kids m p (children_of m p)) m
 
-module _ (m : List ℕ) (p : ℕ) (r : Verdict) (promise : verdict r ≡ ruled (all_rules m p) tt) where
-  pub call-refused : (q : Refusal) → r ≡ Verdict·case.Refused q → Wrote (compacted m p) m r m
+module _ (m : List ℕ) (p : ℕ) (r : Answer (Unit {0})) (promise : outcome r ≡ ruled (all_rules m p) tt) where
+  pub call-refused : (q : Refusal) → r ≡ Err q → Wrote (compacted m p) m r m
   unfolding compacted
   call-refused q e =
-      let k : ruled (all_rules m p) (left m p) ≡ refused (refusal_number q) = subst (λ (o : Outcome _). Known (all_rules m p) tt (left m p) o) (sym promise ∙ ap verdict e) (known (all_rules m p) tt (left m p)) in
-      record { answered = ap verdict e ∙ ap (mapped (λ (x : List ℕ). tt)) (sym k); memory = ap (kept m) (sym k) }
+      let k : ruled (all_rules m p) (left m p) ≡ refused (refusal_number q) = subst (λ (o : Outcome _). Known (all_rules m p) tt (left m p) o) (sym promise ∙ ap outcome e) (known (all_rules m p) tt (left m p)) in
+      record { answered = ap outcome e ∙ ap (mapped (λ (x : List ℕ). tt)) (sym k); memory = ap (kept m) (sym k) }
 
-  module _ (yes : r ≡ Verdict·case.Accepted) where
+  module _ (yes : r ≡ (Ok tt)) where
     pub found : AllFound m p
-    found = all_found m p (sym promise ∙ ap verdict yes)
+    found = all_found m p (sym promise ∙ ap outcome yes)
 
     pub call-accepted : compacted m p ≡ value (left m p)
     unfolding compacted
-    call-accepted = (subst (λ (o : Outcome _). Known (all_rules m p) tt (left m p) o) (sym promise ∙ ap verdict yes) (known (all_rules m p) tt (left m p))).1
+    call-accepted = (subst (λ (o : Outcome _). Known (all_rules m p) tt (left m p) o) (sym promise ∙ ap outcome yes) (known (all_rules m p) tt (left m p))).1
 
-    call-wrote : (l : List ℕ) → l ≡ left m p → Wrote (compacted m p) m Verdict·case.Accepted l
+    call-wrote : (l : List ℕ) → l ≡ left m p → Wrote (compacted m p) m (Ok tt) l
     call-wrote l e = record { answered = ap (mapped (λ (x : List ℕ). tt)) (sym call-accepted); memory = e ∙ ap (kept m) (sym call-accepted) }
 
     module _ (d : Listed) (read : Listing (loaded m p) (list_of []) d) where
@@ -62,8 +61,8 @@ module _ (m : List ℕ) (p : ℕ) (r : Verdict) (promise : verdict r ≡ ruled (
       unfolding loaded
       loaded-is = one-passed 2 (not (is_list m p)) (list_of (children_of m p)) (ap not found.list)
 
-      pub load-never : {X : Type 0} (q : Refusal) → d.verdict ≡ Verdict·case.Refused q → X
-      load-never {X} q e = verdict-never q d.verdict (read.answered ∙ ap (mapped (λ x. tt)) loaded-is) e
+      pub load-never : {X : Type 0} (q : Refusal) → d.verdict ≡ Err q → X
+      load-never {X} q e = never-refused q d.verdict tt (read.answered ∙ ap (mapped (λ x. tt)) loaded-is) e
 
       pub list-is : d.list ≡ list_of (children_of m p)
       list-is = read.list ∙ ap (kept (list_of [])) loaded-is
@@ -72,7 +71,7 @@ module _ (m : List ℕ) (p : ℕ) (r : Verdict) (promise : verdict r ≡ ruled (
       len_is = list-len-is m p d.list found.list list-is
 
       -- one child
-      pub call-short : d.list.len < 2 → Wrote (compacted m p) m Verdict·case.Accepted m
+      pub call-short : d.list.len < 2 → Wrote (compacted m p) m (Ok tt) m
       call-short h =
           let e : (is_leaf m (slot_in (children_of m p) 0) && ltb 1 (len_of m p)) ≡ false =
           ap (λ (t : Bool). is_leaf m (slot_in (children_of m p) 0) && t) (le-ltb 1 (len_of m p) (omega (arith, len_is))) ∙ and_none (is_leaf m (slot_in (children_of m p) 0)) in
@@ -92,7 +91,7 @@ module _ (m : List ℕ) (p : ℕ) (r : Verdict) (promise : verdict r ≡ ruled (
             (λ (x : (i : ℕ) → i < len_of m p → is_list m (slot_in (children_of m p) i) ≡ true). true≢false (sym (x 0 found.some) ∙ sym (ap (is_list m) slot_is) ∙ g))
 
         -- children that are lists
-        pub call-lists : is_leaf m s ≡ false → Wrote (compacted m p) m Verdict·case.Accepted m
+        pub call-lists : is_leaf m s ≡ false → Wrote (compacted m p) m (Ok tt) m
         call-lists f =
             let e : (is_leaf m (slot_in (children_of m p) 0) && ltb 1 (len_of m p)) ≡ false =
             ap (λ (t : Bool). t && ltb 1 (len_of m p)) (sym (ap (is_leaf m) slot_is) ∙ f) in
@@ -116,7 +115,7 @@ module _ (m : List ℕ) (p : ℕ) (r : Verdict) (promise : verdict r ≡ ruled (
                 ap (λ (ks : List Kid). among p (slots_of ks)) k ∙ found.other,
               )
 
-          pub call-leaves : (v : Verdict) (l : List ℕ) → Wrote (value (compacted_kids m p (children_of m p))) m v l → Wrote (compacted m p) m v l
+          pub call-leaves : (v : Answer (Unit {0})) (l : List ℕ) → Wrote (value (compacted_kids m p (children_of m p))) m v l → Wrote (compacted m p) m v l
           call-leaves v l w =
               let f : (is_leaf m (slot_in (children_of m p) 0) && ltb 1 (len_of m p)) ≡ true = rw (first, lt-ltb 1 (len_of m p) (omega (arith, len_is))) in
               let o : compacted m p ≡ value (compacted_kids m p (children_of m p)) = call-accepted ∙ ap (λ (t : Bool). value (cond t (compacted_kids m p (children_of m p)) m)) f in

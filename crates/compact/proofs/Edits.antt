@@ -1,4 +1,6 @@
 -- The edits of `pack_text`: each is accepted, and what they leave is `packed`.
+use Rattle.answer.specs.Answers.{Answer, outcome}
+use Rattle.std.specs.Prelude.{Ok, Err}
 use mathlib.Core.Path.{◌≡◌, refl, sym, ap, subst, ◌∙◌}
 use mathlib.Core.Bool.{Bool, true, false}
 use mathlib.Core.List.{List, [], ◌++◌, append-nil}
@@ -12,13 +14,8 @@ use Rattle.plain.specs.Place.{is_boundary}
 use Rattle.plain.specs.Edit.{replaced}
 use Rattle.plain.specs.Outcome.{Outcome, Outcome.value, kept, mapped}
 use Rattle.plain.proofs.Place.{boundary-0, boundary_end}
-use Rattle.answer.specs.Answers.{number, truth}
 use Rattle.answer.specs.declared.Refusal.{Refusal}
-use Rattle.answer.specs.declared.Number.{Number}
-use Rattle.answer.specs.declared.Number.TheVariants as Number·case
-use Rattle.answer.specs.declared.Truth.{Truth}
-use Rattle.answer.specs.declared.Truth.TheVariants as Truth·case
-use Rattle.answer.proofs.Opened.{number-never}
+use Rattle.answer.proofs.Opened.{never-refused}
 use Rattle.crlf.specs.Break.{at_index, prev_break}
 use Rattle.crlf.proofs.Laws.{index-value}
 use Rattle.crlf.proofs.Breaks.{break-boundary}
@@ -47,9 +44,9 @@ edit-taken m s i e piece t h b c v n =
     (edited-accepted (region_of m s) (len_of m s) i e piece
     (record { small = f.2; room = omega arith; order = h; start = b; end = c; leaf-valid = t.text; piece-valid = v }) (omega arith) (omega arith))
 
-edit-done : (m : List ℕ) (s i e : ℕ) (piece : List ℕ) (q : Number) (after : List ℕ) → LeafText m s → i ≤ e → is_boundary (text_of m s) i ≡ true → is_boundary (text_of m s) e ≡ true
+edit-done : (m : List ℕ) (s i e : ℕ) (piece : List ℕ) (q : Answer ℕ) (after : List ℕ) → LeafText m s → i ≤ e → is_boundary (text_of m s) i ≡ true → is_boundary (text_of m s) e ≡ true
     → valid_utf8 piece ≡ true → i + length piece + (length (text_of m s) - e) ≤ 512 → LeafWrote (leaf_edited m s i e piece) m s q after
-    → (number q ≡ value (length (replaced i e piece (text_of m s)))) × (after ≡ leaf_put m s (replaced i e piece (text_of m s)))
+    → (outcome q ≡ value (length (replaced i e piece (text_of m s)))) × (after ≡ leaf_put m s (replaced i e piece (text_of m s)))
 edit-done m s i e piece q after t h b c v n w =
     let z = edit-taken m s i e piece t h b c v n in
     (w.answered ∙ ap (mapped (λ (x : List ℕ). length x)) z, w.memory ∙ ap (λ (o : Outcome (List ℕ)). kept m (mapped (λ (x : List ℕ). leaf_put m s x) o)) z)
@@ -61,8 +58,8 @@ behind a piece n e =
     ∙ ap (λ (x : List ℕ). a ++ (piece ++ x)) (drop_of_length-le a {i = n} (omega arith))
     ∙ ap (λ (x : List ℕ). a ++ x) (append-nil piece)
 
-push-done : (m : List ℕ) (s n : ℕ) (piece : List ℕ) (q : Number) (after : List ℕ) → LeafText m s → n ≡ length (text_of m s) → valid_utf8 piece ≡ true → n + length piece ≤ 512
-    → LeafWrote (leaf_edited m s n n piece) m s q after → (number q ≡ value (length (replaced n n piece (text_of m s)))) × (after ≡ leaf_put m s (text_of m s ++ piece))
+push-done : (m : List ℕ) (s n : ℕ) (piece : List ℕ) (q : Answer ℕ) (after : List ℕ) → LeafText m s → n ≡ length (text_of m s) → valid_utf8 piece ≡ true → n + length piece ≤ 512
+    → LeafWrote (leaf_edited m s n n piece) m s q after → (outcome q ≡ value (length (replaced n n piece (text_of m s)))) × (after ≡ leaf_put m s (text_of m s ++ piece))
 push-done m s n piece q after t e v h w =
     let b : is_boundary (text_of m s) n ≡ true = ap (is_boundary (text_of m s)) e ∙ boundary_end (text_of m s) in
     let d = edit-done m s n n piece q after t (omega arith) b b v (omega arith) w in
@@ -84,8 +81,8 @@ module _ (m : List ℕ) (l r : ℕ) (t : TwoLeaves m l r) (n : ℕ) (x : List �
   valid-x = ap valid_utf8 text ∙ t.right.text
 
   -- all of the right text
-  pub all-edit : n + length x ≤ 512 → (q : Number) (z : Truth) (after : List ℕ) → LeafWrote (leaf_edited m l n n x) m l q after → truth z ≡ mapped (λ y. true) (number q)
-      → (truth z ≡ value (fits a b)) × (after ≡ packed m l r)
+  pub all-edit : n + length x ≤ 512 → (q : Answer ℕ) (z : Answer Bool) (after : List ℕ) → LeafWrote (leaf_edited m l n n x) m l q after → outcome z ≡ mapped (λ y. true) (outcome q)
+      → (outcome z ≡ value (fits a b)) × (after ≡ packed m l r)
   all-edit h q z after w told =
       let f = le-leb (length a + length b) 512 (omega (arith, ap length text)) in
       let d = push-done m l n x q after t.left len valid-x h w in (
@@ -94,17 +91,17 @@ module _ (m : List ℕ) (l r : ℕ) (t : TwoLeaves m l r) (n : ℕ) (x : List �
       )
 
   -- nothing of it
-  pub no-edit : 512 < n + length x → 512 ≤ n → (truth (Truth·case.Is false) ≡ value (fits a b)) × (m ≡ packed m l r)
+  pub no-edit : 512 < n + length x → 512 ≤ n → (outcome (Ok false) ≡ value (fits a b)) × (m ≡ packed m l r)
   no-edit h k = (ap (λ (y : Bool). value y) (sym (fits-no h)), sym (packed-full m l r (fits-no h) (omega arith)))
 
   -- a part of it
-  pub part-told : 512 < n + length x → (q : Number) (z : Truth) → number q ≡ value (length (drop (moved a b) b)) → truth z ≡ mapped (λ y. false) (number q) → truth z ≡ value (fits a b)
+  pub part-told : 512 < n + length x → (q : Answer ℕ) (z : Answer Bool) → outcome q ≡ value (length (drop (moved a b) b)) → outcome z ≡ mapped (λ y. false) (outcome q) → outcome z ≡ value (fits a b)
   part-told h q z is told = told ∙ ap (mapped (λ y. false)) is ∙ ap (λ (y : Bool). value y) (sym (fits-no h))
 
   pub cut_in : 512 < n + length x → n < 512 → 512 - n ≤ length x
   cut_in h k = omega arith
 
-  module _ (h : 512 < n + length x) (g : n < 512) (z : Number) (k : ℕ) (promise : number z ≡ at_index x (512 - n) (prev_break x (512 - n))) (is : z ≡ Number·case.Is k) where
+  module _ (h : 512 < n + length x) (g : n < 512) (z : Answer ℕ) (k : ℕ) (promise : outcome z ≡ at_index x (512 - n) (prev_break x (512 - n))) (is : z ≡ Ok k) where
     cut-is : k ≡ moved a b
     cut-is =
         index-value x (512 - n) z (prev_break x (512 - n)) promise k is
@@ -120,17 +117,17 @@ module _ (m : List ℕ) (l r : ℕ) (t : TwoLeaves m l r) (n : ℕ) (x : List �
     pub cut-length : k ≡ length (take k x)
     cut-length = sym (length-take-le k x cut_short)
 
-    first-edit : (q : Number) (m₁ : List ℕ) → LeafWrote (leaf_edited m l n n (take k x)) m l q m₁
-        → (number q ≡ value (length (replaced n n (take k x) a))) × (m₁ ≡ leaf_put m l (a ++ take k b))
+    first-edit : (q : Answer ℕ) (m₁ : List ℕ) → LeafWrote (leaf_edited m l n n (take k x)) m l q m₁
+        → (outcome q ≡ value (length (replaced n n (take k x) a))) × (m₁ ≡ leaf_put m l (a ++ take k b))
     first-edit q m₁ w =
         let d = push-done m l n (take k x) q m₁ t.left len (ap (λ (y : List ℕ). valid_utf8 (take k y)) text ∙ cut_moved.left) (omega (arith, cut-length, cut_moved.room)) w in
         (d.0, d.1 ∙ ap (λ (y : List ℕ). leaf_put m l (a ++ take k y)) text)
 
-    pub first-never : {X : Type 0} (q : Number) (m₁ : List ℕ) → LeafWrote (leaf_edited m l n n (take k x)) m l q m₁ → (f : Refusal) → q ≡ Number·case.Refused f → X
-    first-never {X} q m₁ w f e = number-never f q (length (replaced n n (take k x) a)) (first-edit q m₁ w).0 e
+    pub first-never : {X : Type 0} (q : Answer ℕ) (m₁ : List ℕ) → LeafWrote (leaf_edited m l n n (take k x)) m l q m₁ → (f : Refusal) → q ≡ Err f → X
+    first-never {X} q m₁ w f e = never-refused f q (length (replaced n n (take k x) a)) (first-edit q m₁ w).0 e
 
-    second-edit : (m₁ : List ℕ) → m₁ ≡ leaf_put m l (a ++ take k b) → (q : Number) (m₂ : List ℕ) → LeafWrote (leaf_edited m₁ r 0 k []) m₁ r q m₂
-        → (number q ≡ value (length (drop k b))) × (m₂ ≡ leaf_put m₁ r (drop k b))
+    second-edit : (m₁ : List ℕ) → m₁ ≡ leaf_put m l (a ++ take k b) → (q : Answer ℕ) (m₂ : List ℕ) → LeafWrote (leaf_edited m₁ r 0 k []) m₁ r q m₂
+        → (outcome q ≡ value (length (drop k b))) × (m₂ ≡ leaf_put m₁ r (drop k b))
     second-edit m₁ e q m₂ w =
         let f = fits-no h in
         let leaf : LeafText m₁ r = subst (λ (y : List ℕ). LeafText y r) (sym e) (between-leaf m l r t k f cut_moved) in
@@ -139,8 +136,8 @@ module _ (m : List ℕ) (l r : ℕ) (t : TwoLeaves m l r) (n : ℕ) (x : List �
         let d = edit-done m₁ r 0 k [] q m₂ leaf (omega arith) (boundary-0 (text_of m₁ r) 0 refl) brk (unfold valid_utf8 in refl) (omega (arith, (text-size m₁ r leaf.leaf).1)) w in
         (d.0 ∙ ap (λ (y : List ℕ). value (length (drop k y))) same, d.1 ∙ ap (λ (y : List ℕ). leaf_put m₁ r (drop k y)) same)
 
-    pub some-edit : (q₁ q₂ : Number) (m₁ m₂ : List ℕ) → LeafWrote (leaf_edited m l n n (take k x)) m l q₁ m₁ → LeafWrote (leaf_edited m₁ r 0 k []) m₁ r q₂ m₂
-        → (number q₂ ≡ value (length (drop (moved a b) b))) × (m₂ ≡ packed m l r)
+    pub some-edit : (q₁ q₂ : Answer ℕ) (m₁ m₂ : List ℕ) → LeafWrote (leaf_edited m l n n (take k x)) m l q₁ m₁ → LeafWrote (leaf_edited m₁ r 0 k []) m₁ r q₂ m₂
+        → (outcome q₂ ≡ value (length (drop (moved a b) b))) × (m₂ ≡ packed m l r)
     some-edit q₁ q₂ m₁ m₂ u v =
         let e = (first-edit q₁ m₁ u).1 in
         let d = second-edit m₁ e q₂ m₂ v in (

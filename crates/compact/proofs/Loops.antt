@@ -1,4 +1,6 @@
 -- The loop of `compact`: what is still to do from the child at an index on is what was to do at the start.
+use Rattle.answer.specs.Answers.{Answer, outcome}
+use Rattle.std.specs.Prelude.{Ok, Err}
 use mathlib.Core.Path.{◌≡◌, refl, sym, ap, subst, ◌∙◌}
 use mathlib.Core.Bool.{Bool, true, false, cond}
 use mathlib.Core.List.{List, [], ◌∷◌, ◌++◌}
@@ -8,12 +10,8 @@ use native.Mathlib.Numerals.{add-one}
 use lib.ListN.{length, take, drop, get_or, length-append, length-drop}
 use lib.Seq.{length-take-le, get_or-take}
 use Rattle.plain.specs.Outcome.{Outcome, Outcome.value, kept, mapped}
-use Rattle.answer.specs.Answers.{truth}
 use Rattle.answer.specs.declared.Refusal.{Refusal}
-use Rattle.answer.specs.declared.Truth.{Truth}
-use Rattle.answer.specs.declared.Truth.TheVariants as Truth·case
-use Rattle.answer.specs.declared.Verdict.TheVariants as Verdict·case
-use Rattle.answer.proofs.Opened.{verdict-never}
+use Rattle.answer.proofs.Opened.{never-refused}
 use Rattle.pool.specs.declared.Kid.{Kid}
 use Rattle.pool.specs.Slot.{slot_start, no_kid}
 use Rattle.node_children.specs.declared.NodeChildren.{NodeChildren}
@@ -197,8 +195,8 @@ module _ (list : NodeChildren) (i : ℕ) (more : i < list.len) (few : list.len �
   removed-is : removed list i ≡ value (get_or (kids list) i no_kid, list_of (without i (kids list)))
   removed-is = removed-done list i (omega arith) more few
 
-  pub removed-never : {X : Type 0} (q : Refusal) → r.verdict ≡ Verdict·case.Refused q → X
-  removed-never {X} q e = verdict-never q r.verdict (w.answered ∙ ap (mapped (λ x. tt)) removed-is) e
+  pub removed-never : {X : Type 0} (q : Refusal) → r.verdict ≡ Err q → X
+  removed-never {X} q e = never-refused q r.verdict tt (w.answered ∙ ap (mapped (λ x. tt)) removed-is) e
 
   pub removed-list : (all : Bool) → all ≡ true → r.list ≡ cond all (list_of (without i (kids list))) list
   removed-list all e =
@@ -239,13 +237,13 @@ module _ (m : List ℕ) (list : NodeChildren) (i : ℕ) (leaves : AllLeaves m (k
     left e = (moved-here.1, kept-list list i here (sym moved-here.0 ∙ e))
 
   -- from the answer that tells it
-  module _ (z : Truth) (l : List ℕ)
-      (promise : (truth z ≡ value (fits (text_of m (get_or list.arr (i - 1) no_kid).slot) (text_of m (get_or list.arr i no_kid).slot))) × (l ≡ packed m (get_or list.arr (i - 1) no_kid).slot (get_or list.arr i no_kid).slot)) where
-    this-turn : (truth z ≡ value here) × (l ≡ packed m (slot_in (kids list) (i - 1)) (slot_in (kids list) i))
+  module _ (z : Answer Bool) (l : List ℕ)
+      (promise : (outcome z ≡ value (fits (text_of m (get_or list.arr (i - 1) no_kid).slot) (text_of m (get_or list.arr i no_kid).slot))) × (l ≡ packed m (get_or list.arr (i - 1) no_kid).slot (get_or list.arr i no_kid).slot)) where
+    this-turn : (outcome z ≡ value here) × (l ≡ packed m (slot_in (kids list) (i - 1)) (slot_in (kids list) i))
     this-turn = rw (kid-read list (i - 1) (omega arith), kid-read list i more) at promise
 
-    pub packed-at : (all : Bool) → z ≡ Truth·case.Is all → (r : Listed) → Listing (value (cond all (list_of (without i (kids list))) list)) list r
+    pub packed-at : (all : Bool) → z ≡ Ok all → (r : Listed) → Listing (value (cond all (list_of (without i (kids list))) list)) list r
         → (l ≡ packed m (slot_in (kids list) (i - 1)) (slot_in (kids list) i)) × Listing (value (cond here (list_of (without i (kids list))) list)) list r
     packed-at all e r w =
-        let told : all ≡ here = let y : ◌≡◌ {A = Outcome Bool} (value all) (value here) = sym (ap truth e) ∙ this-turn.0 in cc in
+        let told : all ≡ here = let y : ◌≡◌ {A = Outcome Bool} (value all) (value here) = sym (ap outcome e) ∙ this-turn.0 in cc in
         (this-turn.1, subst (λ (t : Bool). Listing (value (cond t (list_of (without i (kids list))) list)) list r) told w)

@@ -1,4 +1,5 @@
 -- A list written with its leaves and each entry counted anew: one entry, and the loop of `relist`.
+use Rattle.std.specs.Prelude.{Ok, Err}
 use mathlib.Core.Path.{◌≡◌, refl, sym, ap, subst, ◌∙◌}
 use mathlib.Core.Bool.{Bool, true, false}
 use mathlib.Core.List.{List}
@@ -11,10 +12,8 @@ use borrow.Author.Tests.{eqb-true, eqb-false}
 use Rattle.plain.specs.Utf8.{valid_utf8, decode}
 use Rattle.plain.specs.Place.{is_start, is_wide}
 use Rattle.plain.specs.Outcome.{Outcome, Outcome.value, past, kept, mapped}
-use Rattle.answer.specs.Answers.{verdict, refusal_number}
+use Rattle.answer.specs.Answers.{refusal_number, Answer, outcome}
 use Rattle.answer.specs.declared.Refusal.{Refusal}
-use Rattle.answer.specs.declared.Verdict.{Verdict}
-use Rattle.answer.specs.declared.Verdict.TheVariants as Verdict·case
 use Rattle.leaf_bytes.proofs.Opened.{never}
 use Rattle.text_info.specs.Info.{info_of}
 use Rattle.text_info.specs.declared.TextInfo.{TextInfo}
@@ -116,9 +115,9 @@ full-array c h e =
     ap (λ (l : NodeChildren). length l.arr) e
     ∙ (omega (arith, length-append (kids c) (replicate (16 - length (kids c)) no_kid), length-replicate (16 - length (kids c)) no_kid))
 
-fitting : (v : Verdict) (ks : List Kid) → verdict v ≡ value tt → Fitted v ks → Fitting ks
-fitting Verdict·case.Accepted ks e f = f
-fitting (Verdict·case.Refused q) ks e f = absurd (never (refusal_number q) tt e)
+fitting : (v : Answer (Unit {0})) (ks : List Kid) → outcome v ≡ value tt → Fitted v ks → Fitting ks
+fitting (Ok tt) ks e f = f
+fitting (Err q) ks e f = absurd (never (refusal_number q) tt e)
 
 -- what `relist` asks for
 abbrev pub Listable : List ℕ → ℕ → NodeChildren → Type 0
@@ -155,12 +154,12 @@ module _ (m : List ℕ) (p : ℕ) (c : NodeChildren) (pre : Listable m p c) wher
   pub put-others : (u : ℕ) → (u ≡ p → ⊥) → slot_of (list_put m p c) u ≡ slot_of m u
   put-others = list-others m p c (inside m p pre.0) pre.1 (full-array c pre.1 pre.2)
 
-  module _ (v : Verdict) (l : List ℕ) (promise : Wrote (stored m p c) m v l × Fitted v c.arr) where
+  module _ (v : Answer (Unit {0})) (l : List ℕ) (promise : Wrote (stored m p c) m v l × Fitted v c.arr) where
     stored_is : stored m p c ≡ value (list_put m p c)
     unfolding stored
     stored_is = two-passed 2 11 (outside m p) (past c.len 16) (list_put m p c) pre.0 (past-no c.len 16 pre.1)
 
-    pub stored-never : {X : Type 0} (q : Refusal) → v ≡ Verdict·case.Refused q → X
+    pub stored-never : {X : Type 0} (q : Refusal) → v ≡ Err q → X
     stored-never {X} q e = wrote-never (stored m p c) m v l promise.0 (list_put m p c) stored_is q e
 
     pub stored-memory : l ≡ list_put m p c
@@ -191,10 +190,10 @@ module _ (m₀ : List ℕ) (p : ℕ) (c : NodeChildren) (m : List ℕ) (i : ℕ)
     update-is : updated m p i ≡ value (renewed m p i)
     update-is = updated-renews m p i inv.list (omega (arith, inv.len)) (renews m p i (text-counted m (slot_at m p i) leaf))
 
-    pub update-never : {X : Type 0} (v : Verdict) (l : List ℕ) → Wrote (updated m p i) m v l → (q : Refusal) → v ≡ Verdict·case.Refused q → X
+    pub update-never : {X : Type 0} (v : Answer (Unit {0})) (l : List ℕ) → Wrote (updated m p i) m v l → (q : Refusal) → v ≡ Err q → X
     update-never {X} v l promise q e = wrote-never (updated m p i) m v l promise (renewed m p i) update-is q e
 
-    memory : (v : Verdict) (l : List ℕ) → Wrote (updated m p i) m v l → l ≡ renewed m p i
+    memory : (v : Answer (Unit {0})) (l : List ℕ) → Wrote (updated m p i) m v l → l ≡ renewed m p i
     memory v l promise = promise.memory ∙ ap (λ (o : Outcome (List ℕ)). kept m o) update-is
 
     pub done : Renewal m p i (renewed m p i)
@@ -218,5 +217,5 @@ module _ (m₀ : List ℕ) (p : ℕ) (c : NodeChildren) (m : List ℕ) (i : ℕ)
       todo = sym one_less ∙ inv.todo;
     }
 
-    pub rows-turn : (v : Verdict) (l : List ℕ) → Wrote (updated m p i) m v l → Rows m₀ p c l (i + 1)
+    pub rows-turn : (v : Answer (Unit {0})) (l : List ℕ) → Wrote (updated m p i) m v l → Rows m₀ p c l (i + 1)
     rows-turn v l promise = subst (λ (x : List ℕ). Rows m₀ p c x (i + 1)) (sym (memory v l promise)) next

@@ -13,7 +13,7 @@ ghost use Rattle.child_info.specs.Kin.{slots_of, among};
 ghost use Rattle.child_info.specs.Leaves.{AllLeaves};
 ghost use Rattle.compact.specs.Pack.{relisted, compacted_kids, compacted};
 
-use answer::{Refusal, Verdict};
+use answer::{Answer, Refusal};
 use child_info::check_all;
 use child_update::update_child_info;
 use node_children::NodeChildren;
@@ -29,59 +29,43 @@ fn index_of(slot: u32) -> usize
 }
 
 // Makes a slot a list of these leaves, and counts each of them.
-fn relist(m: &mut [u8], slot: usize, list: NodeChildren) -> Verdict
+fn relist(m: &mut [u8], slot: usize, list: NodeChildren) -> Answer<()>
     requires { (outside m.old slot ≡ false) × (list.len ≤ 16) × (list ≡ list_of (kids list)) × AllLeaves m.old (kids list) × (among slot (slots_of (kids list)) ≡ false) }
     ensures { Wrote (value (relisted slot (m.old, kids list))) m.old result m.new }
 {
-    let put = store(m, slot, list);
-    let Verdict::Accepted = put else {
-        return put;
-    };
+    store(m, slot, list)?;
     let mut i = 0;
     while i < list.len {
-        let counted = update_child_info(m, slot, i);
-        let Verdict::Accepted = counted else {
-            return counted;
-        };
+        update_child_info(m, slot, i)?;
         i += 1;
     }
-    Verdict::Accepted
+    Ok(())
 }
 
 // Packs the leaves of a list that was read from its slot.
-fn compact_in(m: &mut [u8], slot: usize, list: NodeChildren) -> Verdict
+fn compact_in(m: &mut [u8], slot: usize, list: NodeChildren) -> Answer<()>
     requires { (is_list m.old slot ≡ true) × (list ≡ list_of (children_of m.old slot)) × (0 < list.len) × AllLeaves m.old (kids list) × (among slot (slots_of (kids list)) ≡ false) }
     ensures { Wrote (value (compacted_kids m.old slot (children_of m.old slot))) m.old result m.new }
 {
     let rest = compact(m, list);
-    let may = rest.verdict;
-    let Verdict::Accepted = may else {
-        return may;
-    };
+    rest.verdict?;
     relist(m, slot, rest.list)
 }
 
 // Packs the leaves of a list into as few slots as hold them. A list of lists, or of one child, stays as it is.
-pub fn compact_leaves(m: &mut [u8], slot: usize) -> Verdict
+pub fn compact_leaves(m: &mut [u8], slot: usize) -> Answer<()>
     ensures { Wrote (compacted m.old slot) m.old result m.new }
 {
-    let may = check_all(m, slot);
-    let Verdict::Accepted = may else {
-        return may;
-    };
+    check_all(m, slot)?;
     let found = load(m, slot);
-    let there = found.verdict;
-    let Verdict::Accepted = there else {
-        return there;
-    };
+    found.verdict?;
     let list = found.list;
     if list.len < 2 {
-        return Verdict::Accepted;
+        return Ok(());
     }
-    match head_of(m, index_of(list.arr[0].slot)) {
+    match head_of(m, index_of(list.arr[0].slot))? {
         Head::Leaf(_) => compact_in(m, slot, list),
-        Head::List(_) => Verdict::Accepted,
-        Head::Free(_) => Verdict::Refused(Refusal::Memory),
-        Head::Refused(q) => Verdict::Refused(q),
+        Head::List(_) => Ok(()),
+        Head::Free(_) => Err(Refusal::Memory),
     }
 }

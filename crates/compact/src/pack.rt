@@ -1,7 +1,7 @@
 // Leaves packed into as few slots as hold them.
 ghost use Rattle.std.specs.Prelude.{◌≡◌, cond, ◌+◌, ◌-◌, ◌<◌, ◌≤◌, length, drop};
 ghost use Rattle.plain.specs.Outcome.{Outcome.value, mapped};
-ghost use Rattle.answer.specs.Answers.{number, truth};
+ghost use Rattle.answer.specs.Answers.{outcome};
 ghost use Rattle.node_children.specs.Kids.{kids, list_of, Listing};
 ghost use Rattle.node_children.specs.Calls.{without};
 ghost use Rattle.nodes.specs.Node.{text_of};
@@ -9,7 +9,7 @@ ghost use Rattle.child_info.specs.Kin.{slot_in};
 ghost use Rattle.child_info.specs.Leaves.{TwoLeaves, AllLeaves};
 ghost use Rattle.compact.specs.Pack.{fits, moved, packed, packed_all};
 
-use answer::{Number, Refusal, Truth, Verdict};
+use answer::{Answer, Refusal};
 use crlf::prev_break;
 use leaf_bytes::MAX_BYTES;
 use leaf_nodes::{edit_leaf, text_of};
@@ -17,35 +17,27 @@ use node_children::{Listed, NodeChildren};
 use pool::{Head, head_of};
 
 // Whether all of a leaf went, where the last edit was accepted.
-fn told_if(edit: Number, all: bool) -> Truth
-    ensures { truth result ≡ mapped (λ _. all) (number edit) }
+fn told_if(edit: Answer<usize>, all: bool) -> Answer<bool>
+    ensures { outcome result ≡ mapped (λ _. all) (outcome edit) }
 {
-    match edit {
-        Number::Refused(q) => Truth::Refused(q),
-        Number::Is(_) => Truth::Is(all),
-    }
+    edit?;
+    Ok(all)
 }
 
 // The text of the leaf in slot r, up to the last break that has room, at the end of that in slot l, of a bytes. Answers how much is left.
-fn fill(m: &mut [u8], l: usize, a: usize, text: &[u8], r: usize) -> Number
+fn fill(m: &mut [u8], l: usize, a: usize, text: &[u8], r: usize) -> Answer<usize>
     requires { TwoLeaves m.old l r × (a ≡ length (text_of m.old l)) × (text.now ≡ text_of m.old r) × (512 < a + length text.now) × (a < 512) }
-    ensures { (number result ≡ value (length (drop (moved (text_of m.old l) (text_of m.old r)) (text_of m.old r)))) × (m.new ≡ packed m.old l r) }
+    ensures { (outcome result ≡ value (length (drop (moved (text_of m.old l) (text_of m.old r)) (text_of m.old r)))) × (m.new ≡ packed m.old l r) }
 {
-    let cut = prev_break(MAX_BYTES - a, text);
-    let Number::Is(k) = cut else {
-        return cut;
-    };
-    let put = edit_leaf(m, l, a, a, &text[..k]);
-    let Number::Is(_) = put else {
-        return put;
-    };
+    let k = prev_break(MAX_BYTES - a, text)?;
+    edit_leaf(m, l, a, a, &text[..k])?;
     edit_leaf(m, r, 0, k, b"")
 }
 
 // The text of the leaf in slot r at the end of that in slot l, of a bytes: all of it, or up to the last break that has room.
-fn pack_text(m: &mut [u8], l: usize, a: usize, text: &[u8], r: usize) -> Truth
+fn pack_text(m: &mut [u8], l: usize, a: usize, text: &[u8], r: usize) -> Answer<bool>
     requires { TwoLeaves m.old l r × (a ≡ length (text_of m.old l)) × (text.now ≡ text_of m.old r) }
-    ensures { (truth result ≡ value (fits (text_of m.old l) (text_of m.old r))) × (m.new ≡ packed m.old l r) }
+    ensures { (outcome result ≡ value (fits (text_of m.old l) (text_of m.old r))) × (m.new ≡ packed m.old l r) }
 {
     if a + text.len() <= MAX_BYTES {
         return told_if(edit_leaf(m, l, a, a, text), true);
@@ -53,31 +45,28 @@ fn pack_text(m: &mut [u8], l: usize, a: usize, text: &[u8], r: usize) -> Truth
     if a < MAX_BYTES {
         return told_if(fill(m, l, a, text, r), false);
     }
-    Truth::Is(false)
+    Ok(false)
 }
 
 // The leaf in slot r, and that in slot l, of a bytes.
-fn pack_behind(m: &mut [u8], l: usize, a: usize, r: usize) -> Truth
+fn pack_behind(m: &mut [u8], l: usize, a: usize, r: usize) -> Answer<bool>
     requires { TwoLeaves m.old l r × (a ≡ length (text_of m.old l)) }
-    ensures { (truth result ≡ value (fits (text_of m.old l) (text_of m.old r))) × (m.new ≡ packed m.old l r) }
+    ensures { (outcome result ≡ value (fits (text_of m.old l) (text_of m.old r))) × (m.new ≡ packed m.old l r) }
 {
     let mut text = [0u8; 512];
-    match text_of(m, r, &mut text) {
-        Number::Refused(q) => Truth::Refused(q),
-        Number::Is(k) => pack_text(m, l, a, &text[..k], r),
-    }
+    let k = text_of(m, r, &mut text)?;
+    pack_text(m, l, a, &text[..k], r)
 }
 
 // Packs the leaf in slot r into that in slot l. Answers whether all of it went.
-fn pack(m: &mut [u8], l: usize, r: usize) -> Truth
+fn pack(m: &mut [u8], l: usize, r: usize) -> Answer<bool>
     requires { TwoLeaves m.old l r }
-    ensures { (truth result ≡ value (fits (text_of m.old l) (text_of m.old r))) × (m.new ≡ packed m.old l r) }
+    ensures { (outcome result ≡ value (fits (text_of m.old l) (text_of m.old r))) × (m.new ≡ packed m.old l r) }
 {
-    match head_of(m, l) {
+    match head_of(m, l)? {
         Head::Leaf(a) => pack_behind(m, l, a, r),
-        Head::List(_) => Truth::Refused(Refusal::Memory),
-        Head::Free(_) => Truth::Refused(Refusal::Memory),
-        Head::Refused(q) => Truth::Refused(q),
+        Head::List(_) => Err(Refusal::Memory),
+        Head::Free(_) => Err(Refusal::Memory),
     }
 }
 
@@ -89,7 +78,7 @@ fn rest(list: NodeChildren, i: usize, all: bool) -> Listed
     if all {
         let less = list.remove(i);
         let may = less.verdict;
-        let Verdict::Accepted = may else {
+        let Ok(()) = may else {
             return Listed {
                 verdict: may,
                 list: list,
@@ -97,12 +86,12 @@ fn rest(list: NodeChildren, i: usize, all: bool) -> Listed
         };
         let left = less.list;
         return Listed {
-            verdict: Verdict::Accepted,
+            verdict: Ok(()),
             list: left,
         };
     }
     Listed {
-        verdict: Verdict::Accepted,
+        verdict: Ok(()),
         list: list,
     }
 }
@@ -113,11 +102,11 @@ fn pack_at(m: &mut [u8], list: NodeChildren, i: usize) -> Listed
     ensures { (m.new ≡ packed m.old (slot_in (kids list) (i - 1)) (slot_in (kids list) i)) × Listing (value (cond (fits (text_of m.old (slot_in (kids list) (i - 1))) (text_of m.old (slot_in (kids list) i))) (list_of (without i (kids list))) list)) list result }
 {
     match pack(m, list.arr[i - 1].slot as usize, list.arr[i].slot as usize) {
-        Truth::Refused(q) => Listed {
-            verdict: Verdict::Refused(q),
+        Err(q) => Listed {
+            verdict: Err(q),
             list: list,
         },
-        Truth::Is(all) => rest(list, i, all),
+        Ok(all) => rest(list, i, all),
     }
 }
 
@@ -132,7 +121,7 @@ pub(crate) fn compact(m: &mut [u8], given: NodeChildren) -> Listed
         let n = list.len;
         let next = pack_at(m, list, i);
         let may = next.verdict;
-        let Verdict::Accepted = may else {
+        let Ok(()) = may else {
             return next;
         };
         list = next.list;
@@ -141,7 +130,7 @@ pub(crate) fn compact(m: &mut [u8], given: NodeChildren) -> Listed
         }
     }
     Listed {
-        verdict: Verdict::Accepted,
+        verdict: Ok(()),
         list: list,
     }
 }

@@ -1,4 +1,6 @@
 -- The bytes of a range of chars, copied part by part; and what the calls of this crate come to.
+use Rattle.answer.specs.Answers.{Answer, outcome}
+use Rattle.std.specs.Prelude.{Ok, Err}
 use mathlib.Core.Path.{◌≡◌, refl, sym, ap, ◌∙◌}
 use mathlib.Core.Bool.{true, false, ◌||◌}
 use mathlib.Core.List.{List, [], ◌∷◌, ◌++◌}
@@ -15,11 +17,8 @@ use Rattle.plain.proofs.Outcome.{rule-applies, rule-passed, one-applies, one-pas
 use Rattle.plain.proofs.Encode.{encode-append, encode-take, encode-drop}
 use Rattle.plain.proofs.Place.{byte_split}
 use Rattle.plain_note.specs.Note.{between, copied}
-use Rattle.answer.specs.Answers.{number}
 use Rattle.answer.specs.declared.Refusal.{Refusal}
 use Rattle.answer.specs.declared.Refusal.TheVariants.{Memory, Place, Output}
-use Rattle.answer.specs.declared.Number.{Number}
-use Rattle.answer.specs.declared.Number.TheVariants as Number·case
 use Rattle.leaf_bytes.specs.Leaf.{laid, Leaf}
 use Rattle.octets.specs.Over.{overlaid}
 use Rattle.leaf_bytes.proofs.Laid.{laid_more}
@@ -96,16 +95,16 @@ module _ (cs : List ℕ) (s e : ℕ) (h : s ≤ e) where
 
 -- ── the byte of a place ──
 
-module _ (m own : List ℕ) (p : ℕ) (ok : well_formed m ≡ true) (h : p ≤ length (note_of m).text) (is : own ≡ own_of m) (r : Number) (found : number r ≡ byte_of own p) where
-  pub byte-there : number r ≡ value (byte_at (note_of m).text p)
+module _ (m own : List ℕ) (p : ℕ) (ok : well_formed m ≡ true) (h : p ≤ length (note_of m).text) (is : own ≡ own_of m) (r : Answer ℕ) (found : outcome r ≡ byte_of own p) where
+  pub byte-there : outcome r ≡ value (byte_at (note_of m).text p)
   byte-there = found ∙ ap (λ (l : List ℕ). byte_of l p) is ∙ note-byte m ok p h
 
-  pub byte-is : (b : ℕ) → r ≡ Number·case.Is b → b ≡ byte_at (note_of m).text p
-  byte-is b e = let z : value b ≡ value (byte_at (note_of m).text p) = sym (ap number e) ∙ byte-there in cc
+  pub byte-is : (b : ℕ) → r ≡ Ok b → b ≡ byte_at (note_of m).text p
+  byte-is b e = let z : value b ≡ value (byte_at (note_of m).text p) = sym (ap outcome e) ∙ byte-there in cc
 
-  pub byte-refused : (q : Refusal) → r ≡ Number·case.Refused q → ⊥
+  pub byte-refused : (q : Refusal) → r ≡ Err q → ⊥
   byte-refused q e =
-      let z : number (Number·case.Refused q) ≡ value (byte_at (note_of m).text p) = sym (ap number e) ∙ byte-there in
+      let z : outcome (Err q) ≡ value (byte_at (note_of m).text p) = sym (ap outcome e) ∙ byte-there in
       let w : ◌≡◌ {A = ℕ} 0 1 = cc in
       omega arith
 
@@ -125,39 +124,39 @@ module _ (m : List ℕ) (s e : ℕ) (out : List ℕ) where
     pub range_size : b - a ≡ bytes (between s e text)
     range_size = omega (arith, bytes-between text s e h)
 
-    pub out-short : length out < b - a → Leaf Short out (Number·case.Refused Output) out
-    out-short k = leaf-refused Short out (Number·case.Refused Output) 9 (one-applies 9 (past (bytes (between s e text)) (length out)) (encode (between s e text)) (lt-ltb (length out) _ (omega (arith, range_size)))) refl
+    pub out-short : length out < b - a → Leaf Short out (Err Output) out
+    out-short k = leaf-refused Short out (Err Output) 9 (one-applies 9 (past (bytes (between s e text)) (length out)) (encode (between s e text)) (lt-ltb (length out) _ (omega (arith, range_size)))) refl
 
-    pub out-done : b - a ≤ length out → (after : List ℕ) → after ≡ laid out (take (b - a) (drop a (encode text))) → Leaf Short out (Number·case.Is (b - a)) after
+    pub out-done : b - a ≤ length out → (after : List ℕ) → after ≡ laid out (take (b - a) (drop a (encode text))) → Leaf Short out (Ok (b - a)) after
     out-done k after f =
         let same : take (b - a) (drop a (encode text)) ≡ encode (between s e text) =
         ap (λ (j : ℕ). take (b - j) (drop j (encode text))) a-is ∙ ap (λ (j : ℕ). take (j - byte_at text s) (drop (byte_at text s) (encode text))) b-is ∙ range-is text s e h in
-        leaf-done Short out (Number·case.Is (b - a)) (encode (between s e text)) after
+        leaf-done Short out (Ok (b - a)) (encode (between s e text)) after
         (one-passed 9 (past (bytes (between s e text)) (length out)) (encode (between s e text)) (le-ltb (length out) _ (omega (arith, range_size))))
         (ap (λ (k : ℕ). value k) range_size) (f ∙ ap (laid out) same)
 
-  pub out-2 : well_formed m ≡ false → Leaf Called out (Number·case.Refused Memory) out
-  out-2 f = leaf-refused Called out (Number·case.Refused Memory) 2 (note-refused m (λ N. copied N s e (length out)) f) refl
+  pub out-2 : well_formed m ≡ false → Leaf Called out (Err Memory) out
+  out-2 f = leaf-refused Called out (Err Memory) 2 (note-refused m (λ N. copied N s e (length out)) f) refl
 
   module _ (ok : well_formed m ≡ true) where
-    out-place : (past s e || past e (length text)) ≡ true → Leaf Called out (Number·case.Refused Place) out
+    out-place : (past s e || past e (length text)) ≡ true → Leaf Called out (Err Place) out
     unfolding copied
     out-place f =
-        leaf-refused Called out (Number·case.Refused Place) 3
+        leaf-refused Called out (Err Place) 3
         (note-called m (λ N. copied N s e (length out)) ok
         ∙ rule-applies 3 (past s e || past e (length text)) ((9, past (bytes (between s e text)) (length out)) ∷ []) (encode (between s e text)) f) refl
 
-    pub out-above : e < s → Leaf Called out (Number·case.Refused Place) out
+    pub out-above : e < s → Leaf Called out (Err Place) out
     out-above h = out-place (or_left (past s e) (past e (length text)) (lt-ltb e s h))
 
     module _ (k : ℕ) (stored : k ≡ (root_of m).info.chars) where
       pub chars-are : k ≡ length text
       chars-are = stored ∙ (told m ok).chars-told
 
-      pub out-past : k < e → Leaf Called out (Number·case.Refused Place) out
+      pub out-past : k < e → Leaf Called out (Err Place) out
       out-past h = out-place (or_right (past s e) (past e (length text)) (lt-ltb (length text) e (omega (arith, chars-are))))
 
-      pub out-copied : s ≤ e → e ≤ k → (r : Number) (after : List ℕ) → Leaf Short out r after → Leaf Called out r after
+      pub out-copied : s ≤ e → e ≤ k → (r : Answer ℕ) (after : List ℕ) → Leaf Short out r after → Leaf Called out r after
       unfolding copied
       out-copied h l r after w =
           leaf-same Short out r Called after

@@ -6,29 +6,16 @@ ghost use Rattle.plain.specs.Chars.{encode};
 ghost use Rattle.plain.specs.Place.{bytes, byte_at};
 ghost use Rattle.plain.specs.Outcome.{Outcome.value, ruled, past};
 ghost use Rattle.plain_note.specs.Note.{between, copied};
-ghost use Rattle.answer.specs.Answers.{number};
+ghost use Rattle.answer.specs.Answers.{outcome};
 ghost use Rattle.leaf_bytes.specs.Leaf.{laid, Leaf};
 ghost use Rattle.octets.specs.Over.{overlaid};
 ghost use Rattle.note_head.specs.Head.{own_of};
 ghost use Rattle.memory.specs.Formed.{well_formed, note_of, of_note};
 ghost use Rattle.leaf_parts.specs.Parts.{from_byte};
 
-use answer::{Number, Refusal};
+use answer::{Answer, Refusal};
 use leaf_parts::{byte_of, from_byte};
 use note_head::{chars_of, own_part};
-
-// Lays a piece over the bytes from `at` on.
-fn put(out: &mut [u8], at: usize, piece: &[u8])
-    requires { at + length piece.now ≤ length out.old }
-    ensures { out.new ≡ overlaid at piece.now out.old }
-{
-    let n = piece.len();
-    let mut i = 0;
-    while i < n {
-        out[at + i] = piece[i];
-        i += 1;
-    }
-}
 
 // The part of a leaf from the byte i of the note on, no further than to the byte b.
 fn upto(m: &[u8], i: usize, b: usize) -> &[u8]
@@ -51,52 +38,47 @@ fn copy_bytes(m: &[u8], a: usize, b: usize, out: &mut [u8])
     let mut i = a;
     while i < b {
         let part = upto(m, i, b);
-        put(out, i - a, part);
+        let at = i - a;
+        out[at..at + part.len()].copy_from_slice(part);
         i += part.len();
     }
 }
 
 // The byte of a place, which is there.
-fn byte_at(m: &[u8], p: usize) -> Number
+fn byte_at(m: &[u8], p: usize) -> Answer<usize>
     requires { (well_formed m.now ≡ true) × (p ≤ length (note_of m.now).text) }
-    ensures { number result ≡ value (byte_at (note_of m.now).text p) }
+    ensures { outcome result ≡ value (byte_at (note_of m.now).text p) }
 {
     byte_of(own_part(m), p)
 }
 
 // The chars of [s, e), which are there.
-fn copy_chars(m: &[u8], s: usize, e: usize, out: &mut [u8]) -> Number
+fn copy_chars(m: &[u8], s: usize, e: usize, out: &mut [u8]) -> Answer<usize>
     requires { (well_formed m.now ≡ true) × (s ≤ e) × (e ≤ length (note_of m.now).text) }
     ensures { Leaf (ruled ((9, past (bytes (between s e (note_of m.now).text)) (length out.old)) ∷ []) (encode (between s e (note_of m.now).text))) out.old result out.new }
 {
-    let first = byte_at(m, s);
-    let Number::Is(a) = first else {
-        return first;
-    };
-    let last = byte_at(m, e);
-    let Number::Is(b) = last else {
-        return last;
-    };
+    let a = byte_at(m, s)?;
+    let b = byte_at(m, e)?;
     let n = b - a;
     if out.len() < n {
-        return Number::Refused(Refusal::Output);
+        return Err(Refusal::Output);
     }
     copy_bytes(m, a, b, out);
-    Number::Is(n)
+    Ok(n)
 }
 
 // Writes the bytes of the chars [s, e) at the front of the output, changes no more of it, and answers how many they are.
-pub fn copy_out(m: &[u8], s: usize, e: usize, out: &mut [u8]) -> Number
+pub fn copy_out(m: &[u8], s: usize, e: usize, out: &mut [u8]) -> Answer<usize>
     ensures { Leaf (of_note m.now (λ N. copied N s e (length out.old))) out.old result out.new }
 {
     if !memory::check(m) {
-        return Number::Refused(Refusal::Memory);
+        return Err(Refusal::Memory);
     }
     if e < s {
-        return Number::Refused(Refusal::Place);
+        return Err(Refusal::Place);
     }
     if chars_of(m) < e {
-        return Number::Refused(Refusal::Place);
+        return Err(Refusal::Place);
     }
     copy_chars(m, s, e, out)
 }

@@ -1,5 +1,7 @@
 -- What each public function promises is a step of a sequence: an edit, a mark set or dropped, and what answers a number. Those that hand out text are in
 -- Handed.antt.
+use Rattle.answer.specs.Answers.{Answer}
+use Rattle.std.specs.Prelude.{Ok}
 use mathlib.Core.Path.{◌≡◌, refl, sym, ap, subst, ◌∙◌}
 use mathlib.Core.Bool.{Bool, true, false}
 use mathlib.Core.List.{List, []}
@@ -13,8 +15,6 @@ use Rattle.plain_calls.specs.Marks.{standing, line_beside}
 use Rattle.plain_calls.specs.Calls.{Call.insert, Call.remove, Call.set_mark, Call.drop_mark, Call.look, Look, Look.total, Look.slots, Look.edits, Look.convert, Look.place, Look.line, Said, Said.done, Said.is, Said.by, inserting, removing, setting, dropping, looking, said, called}
 use Rattle.memory.specs.Formed.{well_formed, note_of, of_note}
 use Rattle.memory.proofs.Formed.{note-called, note-refused}
-use Rattle.answer.specs.declared.Verdict.{Verdict}
-use Rattle.answer.specs.declared.Verdict.TheVariants as Verdict·case
 use Rattle.pool.specs.Calls.{Wrote}
 use Rattle.opening.specs.Opened.{opens}
 use Rattle.opening.proofs.Opened.{accepted-opened}
@@ -144,5 +144,5 @@ module _ (m : List ℕ) where
 
 -- ── opening: it makes the memory that a sequence starts on ──
 
-pub open-starts : (m : List ℕ) (n : ℕ) (r : Verdict) (after : List ℕ) → Wrote (opens m n) m r after → r ≡ Verdict·case.Accepted → (well_formed after ≡ true) × (note_of after ≡ opened n)
+pub open-starts : (m : List ℕ) (n : ℕ) (r : Answer (Unit {0})) (after : List ℕ) → Wrote (opens m n) m r after → r ≡ (Ok tt) → (well_formed after ≡ true) × (note_of after ≡ opened n)
 open-starts m n r after w e = let o = accepted-opened m n r after w e in (o.formed, o.note)

@@ -1,6 +1,7 @@
 -- Demand 2 of what hands out text: copies, the runs of `runs::run` and of a reader, and previews. The hypotheses are what these functions and their
 -- companions promise. Where a run and a preview end is settled by the leaves, so it is runs and previews joined that the plain note settles, and
 -- what one of them begins with.
+use Rattle.answer.specs.Answers.{Answer, outcome}
 use mathlib.Core.Path.{◌≡◌, refl, sym, ap, subst, ◌∙◌}
 use mathlib.Core.List.{List, [], ◌∷◌}
 use Prim.Native.Nat.{ℕ}
@@ -12,9 +13,6 @@ use Rattle.plain.specs.Edit.{put_in}
 use Rattle.plain.specs.Outcome.{Outcome, Outcome.value, Outcome.refused, part, mapped}
 use Rattle.plain_note.specs.Note.{Note, copied, read_from, previewed}
 use Rattle.plain_calls.specs.Calls.{Call, Call.look, Look.copy, Look.read, Look.preview, Said, Said.bytes, looking, after_all}
-use Rattle.answer.specs.Answers.{number, verdict}
-use Rattle.answer.specs.declared.Number.{Number}
-use Rattle.answer.specs.declared.Verdict.{Verdict}
 use Rattle.leaf_bytes.specs.Leaf.{Leaf}
 use Rattle.memory.specs.Formed.{note_of, of_note}
 use Rattle.memory.proofs.Formed.{note-called}
@@ -34,13 +32,13 @@ use Rattle.demands.proofs.Demand2.{Followed}
 -- ── what a caller has in hand, as one outcome ──
 
 -- the first bytes of the output, as many as the call answers
-copy_told : (o : Outcome (List ℕ)) (out : List ℕ) (r : Number) (after : List ℕ) → Leaf o out r after → mapped (λ n. take n after) (number r) ≡ o
+copy_told : (o : Outcome (List ℕ)) (out : List ℕ) (r : Answer ℕ) (after : List ℕ) → Leaf o out r after → mapped (λ n. take n after) (outcome r) ≡ o
 copy_told (value t) out r after w =
     ap (mapped (λ n. take n after)) w.answered ∙ ap (λ (l : List ℕ). value (take (length t) l)) w.region ∙ ap value (take_at t (drop (length t) out) (length t) refl)
 copy_told (refused n) out r after w = ap (mapped (λ n. take n after)) w.answered
 
 -- a text that was handed out, by what the companion says
-part-told : (o : Outcome (List ℕ)) (v : Verdict) (t : List ℕ) → HandedOut o v t → mapped (λ u. t) (verdict v) ≡ o
+part-told : (o : Outcome (List ℕ)) (v : Answer (Unit {0})) (t : List ℕ) → HandedOut o v t → mapped (λ u. t) (outcome v) ≡ o
 part-told (value a) v t h = ap (mapped (λ u. t)) h.said ∙ ap value h.is
 part-told (refused n) v t h = ap (mapped (λ u. t)) h.said
 
@@ -82,34 +80,34 @@ previews-joined m p piece q ts h = taken-joined (preview_of m p piece) q (of_not
 -- ── each is a step of a sequence ──
 
 module _ (m : List ℕ) where
-  pub copy-steps : (s e : ℕ) (out : List ℕ) (r : Number) (after : List ℕ) → Leaf (of_note m (λ N. copied N s e (length out))) out r after
-      → Step (look (copy s e (length out))) m (mapped bytes (mapped (λ n. take n after) (number r))) m
+  pub copy-steps : (s e : ℕ) (out : List ℕ) (r : Answer ℕ) (after : List ℕ) → Leaf (of_note m (λ N. copied N s e (length out))) out r after
+      → Step (look (copy s e (length out))) m (mapped bytes (mapped (λ n. take n after) (outcome r))) m
   unfolding looking
   copy-steps s e out r after w =
-      let a = mapped (λ n. take n after) (number r) in
+      let a = mapped (λ n. take n after) (outcome r) in
       look-steps m (copy s e (length out)) (mapped bytes a)
       (of-read m bytes (copy s e (length out)) (λ N. copied N s e (length out)) (λ N. refl) a (copy_told (of_note m (λ N. copied N s e (length out))) out r after w))
 
-  module _ (p : ℕ) (v : Verdict) (companion : verdict v ≡ mapped (λ t. tt) (of_note m (λ N. read_from N p))) where
-    read-steps : (t : List ℕ) → t ≡ part (of_note m (λ N. read_from N p)) → Step (look (read p)) m (mapped bytes (mapped (λ u. t) (verdict v))) m
+  module _ (p : ℕ) (v : Answer (Unit {0})) (companion : outcome v ≡ mapped (λ t. tt) (of_note m (λ N. read_from N p))) where
+    read-steps : (t : List ℕ) → t ≡ part (of_note m (λ N. read_from N p)) → Step (look (read p)) m (mapped bytes (mapped (λ u. t) (outcome v))) m
     unfolding looking
     read-steps t e =
-        let a = mapped (λ u. t) (verdict v) in
+        let a = mapped (λ u. t) (outcome v) in
         look-steps m (read p) (mapped bytes a)
         (of-read m bytes (read p) (λ N. read_from N p) (λ N. refl) a (part-told (of_note m (λ N. read_from N p)) v t (record { said = companion; is = e })))
 
-    pub runs-steps : (rs : List (List ℕ)) → InTurn (run_of m) p rs → Step (look (read p)) m (mapped bytes (mapped (λ u. joined rs) (verdict v))) m
+    pub runs-steps : (rs : List (List ℕ)) → InTurn (run_of m) p rs → Step (look (read p)) m (mapped bytes (mapped (λ u. joined rs) (outcome v))) m
     runs-steps rs h = read-steps (joined rs) (runs-joined m p rs h)
 
     pub reader-steps : (r : Reader) (ss : List (List ℕ)) → (r.pool.now ≡ pool_at m p) × (r.place ≡ p) → ReadOut r ss
-        → Step (look (read p)) m (mapped bytes (mapped (λ u. joined ss) (verdict v))) m
+        → Step (look (read p)) m (mapped bytes (mapped (λ u. joined ss) (outcome v))) m
     reader-steps r ss made h = read-steps (joined ss) (reader-joined m p r ss made h)
 
-  pub previews-steps : (p : ℕ) (piece : List ℕ) (q : ℕ) (v : Verdict) → verdict v ≡ mapped (λ t. tt) (of_note m (λ N. previewed N p piece q))
-      → (ts : List (List ℕ)) → InTurn (preview_of m p piece) q ts → Step (look (preview p piece q)) m (mapped bytes (mapped (λ u. joined ts) (verdict v))) m
+  pub previews-steps : (p : ℕ) (piece : List ℕ) (q : ℕ) (v : Answer (Unit {0})) → outcome v ≡ mapped (λ t. tt) (of_note m (λ N. previewed N p piece q))
+      → (ts : List (List ℕ)) → InTurn (preview_of m p piece) q ts → Step (look (preview p piece q)) m (mapped bytes (mapped (λ u. joined ts) (outcome v))) m
   unfolding looking
   previews-steps p piece q v companion ts h =
-      let a = mapped (λ u. joined ts) (verdict v) in
+      let a = mapped (λ u. joined ts) (outcome v) in
       look-steps m (preview p piece q) (mapped bytes a)
       (of-read m bytes (preview p piece q) (λ N. previewed N p piece q) (λ N. refl) a
       (part-told (of_note m (λ N. previewed N p piece q)) v (joined ts) (record { said = companion; is = previews-joined m p piece q ts h })))
@@ -124,15 +122,15 @@ module _ (start : Note) (hs : List (Call × Outcome Said)) (m : List ℕ) (f : F
   comes-to : {A : Type 0} (o : Note → Outcome A) → of_note m o ≡ o N
   comes-to o = note-called m o f.formed ∙ ap o f.note
 
-  handed : (o : Note → Outcome (List ℕ)) (v : Verdict) (t : List ℕ) → verdict v ≡ mapped (λ x. tt) (of_note m o) → t ≡ part (of_note m o) → HandedOut (o N) v t
+  handed : (o : Note → Outcome (List ℕ)) (v : Answer (Unit {0})) (t : List ℕ) → outcome v ≡ mapped (λ x. tt) (of_note m o) → t ≡ part (of_note m o) → HandedOut (o N) v t
   handed o v t e g = record { said = e ∙ ap (mapped (λ x. tt)) (comes-to o); is = g ∙ ap part (comes-to o) }
 
   -- DEMAND 2: what `copy_out::copy_out` answers and writes
-  pub copy-counted : (s e : ℕ) (out : List ℕ) (r : Number) (after : List ℕ) → Leaf (of_note m (λ M. copied M s e (length out))) out r after
+  pub copy-counted : (s e : ℕ) (out : List ℕ) (r : Answer ℕ) (after : List ℕ) → Leaf (of_note m (λ M. copied M s e (length out))) out r after
       → Leaf (copied (after_all start (calls_of hs)) s e (length out)) out r after
   copy-counted s e out r after w = subst (λ (o : Outcome (List ℕ)). Leaf o out r after) (comes-to (λ M. copied M s e (length out))) w
 
-  module _ (p : ℕ) (v : Verdict) (companion : verdict v ≡ mapped (λ t. tt) (of_note m (λ M. read_from M p))) where
+  module _ (p : ℕ) (v : Answer (Unit {0})) (companion : outcome v ≡ mapped (λ t. tt) (of_note m (λ M. read_from M p))) where
     -- DEMAND 2: the runs of `runs::run` joined, with the word of `runs::run_refusal`
     pub runs-counted : (rs : List (List ℕ)) → InTurn (run_of m) p rs → HandedOut (read_from (after_all start (calls_of hs)) p) v (joined rs)
     runs-counted rs h = handed (λ M. read_from M p) v (joined rs) companion (runs-joined m p rs h)
@@ -143,7 +141,7 @@ module _ (start : Note) (hs : List (Call × Outcome Said)) (m : List ℕ) (f : F
     reader-counted r ss made h = handed (λ M. read_from M p) v (joined ss) companion (reader-joined m p r ss made h)
 
   -- DEMAND 2: the previews of one insertion joined, of `runs::preview` with the word of `runs::preview_refusal`
-  pub previews-counted : (p : ℕ) (piece : List ℕ) (q : ℕ) (v : Verdict) → verdict v ≡ mapped (λ t. tt) (of_note m (λ M. previewed M p piece q))
+  pub previews-counted : (p : ℕ) (piece : List ℕ) (q : ℕ) (v : Answer (Unit {0})) → outcome v ≡ mapped (λ t. tt) (of_note m (λ M. previewed M p piece q))
       → (ts : List (List ℕ)) → InTurn (preview_of m p piece) q ts → HandedOut (previewed (after_all start (calls_of hs)) p piece q) v (joined ts)
   previews-counted p piece q v companion ts h = handed (λ M. previewed M p piece q) v (joined ts) companion (previews-joined m p piece q ts h)
 

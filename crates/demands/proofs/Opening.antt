@@ -1,4 +1,5 @@
 -- Opening first, then any sequence of calls: `opening::open` is lent any memory, and what the calls behind it answer and leave is that of the empty note.
+use Rattle.std.specs.Prelude.{Ok, Err}
 use mathlib.Core.Path.{◌≡◌, refl, sym, ap, subst, ◌∙◌}
 use mathlib.Core.Bool.{Bool, true, false}
 use mathlib.Core.List.{List, ◌∷◌, ◌++◌}
@@ -13,10 +14,8 @@ use Rattle.plain.specs.Edit.{minus}
 use Rattle.plain_history.specs.History.{begun, told_all}
 use Rattle.plain_history.specs.Words.{Undropped, Stood}
 use Rattle.plain_history.specs.Shift.{Edit, as_call, start_of, end_of, later, more}
-use Rattle.answer.specs.Answers.{refusal_number, verdict}
+use Rattle.answer.specs.Answers.{refusal_number, Answer, outcome}
 use Rattle.answer.specs.declared.Refusal.{Refusal}
-use Rattle.answer.specs.declared.Verdict.{Verdict}
-use Rattle.answer.specs.declared.Verdict.TheVariants as Verdict·case
 use Rattle.pool.specs.Calls.{Wrote}
 use Rattle.memory.specs.Formed.{note_of}
 use Rattle.opening.specs.Opened.{opened_memory, misfit, opens}
@@ -26,23 +25,23 @@ use Rattle.demands.proofs.Demand3.{set-mark-follows, counts-below, counts_behind
 use Rattle.demands.proofs.Bridge.{open-starts}
 
 -- `open` on the lent memory, for n slots, left the memory m
-module _ (lent : List ℕ) (n : ℕ) (r : Verdict) (m : List ℕ) (w : Wrote (opens lent n) lent r m) where
+module _ (lent : List ℕ) (n : ℕ) (r : Answer (Unit {0})) (m : List ℕ) (w : Wrote (opens lent n) lent r m) where
   -- DEMAND 1: refused, it gives 1 and leaves every byte
-  pub open-refused : (q : Refusal) → r ≡ Verdict·case.Refused q → (refusal_number q ≡ 1) × (m ≡ lent)
+  pub open-refused : (q : Refusal) → r ≡ Err q → (refusal_number q ≡ 1) × (m ≡ lent)
   unfolding opens
   open-refused q e = go (misfit n (length lent)) refl
     where
       go : (t : Bool) → misfit n (length lent) ≡ t → (refusal_number q ≡ 1) × (m ≡ lent)
       go true f =
           let o = one-applies 1 (misfit n (length lent)) (opened_memory lent n) f in
-          let y : ◌≡◌ {A = Outcome (Unit {0})} (refused (refusal_number q)) (refused 1) = sym (ap verdict e) ∙ w.answered ∙ ap (mapped (λ t. tt)) o in
+          let y : ◌≡◌ {A = Outcome (Unit {0})} (refused (refusal_number q)) (refused 1) = sym (ap outcome e) ∙ w.answered ∙ ap (mapped (λ t. tt)) o in
           let z : refusal_number q ≡ 1 = cc in (z, w.memory ∙ ap (kept lent) o)
       go false f =
           let o = one-passed 1 (misfit n (length lent)) (opened_memory lent n) f in
-          clash (refusal_number q) (tt {0}) (sym (ap verdict e) ∙ w.answered ∙ ap (mapped (λ t. tt)) o)
+          clash (refusal_number q) (tt {0}) (sym (ap outcome e) ∙ w.answered ∙ ap (mapped (λ t. tt)) o)
 
   -- accepted, and then calls from m to `end`
-  module _ (yes : r ≡ Verdict·case.Accepted) (hs : List (Call × Outcome Said)) (end : List ℕ) (s : Steps m hs end) where
+  module _ (yes : r ≡ (Ok tt)) (hs : List (Call × Outcome Said)) (end : List ℕ) (s : Steps m hs end) where
     -- DEMAND 2: the note is the empty note after the same calls, and every answer is the one that it gives
     pub opened-followed : Followed (opened n) hs end
     opened-followed =

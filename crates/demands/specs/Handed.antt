@@ -1,14 +1,13 @@
 -- What a caller has in hand of the calls that hand out text: a text with the word of the companion call, and a reader read to its end.
+use Rattle.answer.specs.Answers.{Answer, outcome}
 use Rattle.std.specs.Prelude.{◌≡◌, List, [], ◌∷◌, ℕ, ◌≤◌, length}
 use Rattle.plain.specs.Outcome.{Outcome, part, mapped}
-use Rattle.answer.specs.Answers.{verdict}
-use Rattle.answer.specs.declared.Verdict.{Verdict}
 use Rattle.reader.specs.declared.Reader.{Reader}
 use Rattle.reader.specs.Handed.{run_at, behind_of}
 
 -- of a call that comes to o: the companion said v, and the text is t, nothing where it is refused
-pub record HandedOut (o : Outcome (List ℕ)) (v : Verdict) (t : List ℕ) : Type 0 where
-  pub said : verdict v ≡ mapped (λ x. tt) o
+pub record HandedOut (o : Outcome (List ℕ)) (v : Answer (Unit {0})) (t : List ℕ) : Type 0 where
+  pub said : outcome v ≡ mapped (λ x. tt) o
   pub is : t ≡ part o
 
 -- ── a reader, as `reader::run_of` and `reader::behind` promise ──

@@ -1,8 +1,9 @@
 -- The promise of an edit, from what refused it or from what its steps left.
+use Rattle.std.specs.Prelude.{Ok, Err}
 use mathlib.Core.Path.{◌≡◌, refl, sym, ap, subst, ◌∙◌}
 use mathlib.Core.Bool.{Bool, true, false}
 use mathlib.Core.List.{List, [], ◌++◌}
-use Prim.Native.Nat.{ℕ, ◌+◌, ◌≤◌}
+use Prim.Native.Nat.{ℕ, ◌≤◌}
 use native.Mathlib.Omega.{arith}
 use lib.IntN.{ℤ}
 use lib.ListN.{length, drop, take-append-drop}
@@ -15,16 +16,14 @@ use Rattle.plain.proofs.Outcome.{Known, known, clash}
 use Rattle.plain.proofs.Utf8.{valid-sound}
 use Rattle.plain_note.specs.Note.{Note, need, insert_rules, piece_most}
 use Rattle.plain_note.specs.Edits.{remove_rules, inserted, removed}
-use Rattle.answer.specs.Answers.{refusal_number}
+use Rattle.answer.specs.Answers.{refusal_number, Answer}
 use Rattle.answer.specs.declared.Refusal.{Refusal}
 use Rattle.note_head.specs.Head.{n_of, root_of, own_of}
 use Rattle.note_head.proofs.Own.{own-n}
 use Rattle.memory.specs.Formed.{well_formed, note_of, of_note}
 use Rattle.memory.proofs.Formed.{formed, note-called, note-refused, note-accepted}
 use Rattle.plain_note.proofs.Edits.{insert-says, remove-says}
-use Rattle.answer.specs.declared.Change.{Change}
-use Rattle.answer.specs.declared.Change.TheVariants as Change·case
-use Rattle.answer.proofs.Unique.{change-one}
+use Rattle.answer.proofs.Unique.{answer-one}
 use Rattle.edit_promise.specs.Edited.{Holding, Edited}
 use Rattle.edit_promise.specs.Turned.{text_in, Turned, Puts, Removes}
 use Rattle.edit_promise.proofs.Guard.{put-bytes, cut-bytes}
@@ -56,7 +55,7 @@ module _ (o : Note → Outcome (List ℕ)) (idle : Type 0) (m : List ℕ) where
       go false w = note-refused m line_change w ∙ renumbered 2 q (sym (note-refused m o w) ∙ e)
 
   -- THEOREM: a refused edit.
-  edit-refused : (r : Refusal) → of_note m o ≡ refused (refusal_number r) → Edited o idle m (Change·case.Refused r) m
+  edit-refused : (r : Refusal) → of_note m o ≡ refused (refusal_number r) → Edited o idle m (Err r) m
   edit-refused r e =
       record {
         answered = sym (answer-refused (refusal_number r) e);
@@ -67,7 +66,7 @@ module _ (o : Note → Outcome (List ℕ)) (idle : Type 0) (m : List ℕ) where
 
   -- THEOREM: an accepted one.
   edit-done : well_formed m ≡ true → (cs : List ℕ) → o (note_of m) ≡ value cs → (after : List ℕ) → Holding m cs after → (idle → after ≡ m)
-      → (d : ℤ) → d ≡ minus (lines cs) (lines (note_of m).text) → Edited o idle m (Change·case.By d) after
+      → (d : ℤ) → d ≡ minus (lines cs) (lines (note_of m).text) → Edited o idle m (Ok d) after
   edit-done ok cs e after h i d f =
       let c = note-called m o ok ∙ e in
       record {
@@ -78,10 +77,10 @@ module _ (o : Note → Outcome (List ℕ)) (idle : Type 0) (m : List ℕ) where
       }
 
   -- THEOREM: no second outcome meets the promise: one answer, one note, and where the call is refused the same bytes.
-  pub edited-one : (r s : Change) (a b : List ℕ) → Edited o idle m r a → Edited o idle m s b → r ≡ s
-  edited-one r s a b x y = change-one r s (x.answered ∙ sym y.answered)
+  pub edited-one : (r s : Answer ℤ) (a b : List ℕ) → Edited o idle m r a → Edited o idle m s b → r ≡ s
+  edited-one r s a b x y = answer-one r s (x.answered ∙ sym y.answered)
 
-  pub noted_one : (r s : Change) (a b : List ℕ) → Edited o idle m r a → Edited o idle m s b → note_of a ≡ note_of b
+  pub noted_one : (r s : Answer ℤ) (a b : List ℕ) → Edited o idle m r a → Edited o idle m s b → note_of a ≡ note_of b
   noted_one r s a b x y = go (of_note m o) refl
     where
       go : (u : Outcome (List ℕ)) → of_note m o ≡ u → note_of a ≡ note_of b
@@ -125,7 +124,7 @@ module _ (m : List ℕ) (p : ℕ) (piece : List ℕ) where
   insertion N = inserted N p piece
 
   pub insert-refused : (r : Refusal) → refused (refusal_number r) ≡ of_note m (λ N. ruled (insert_rules piece_most N p piece) (tt {0}))
-      → Edited (λ N. inserted N p piece) (piece ≡ []) m (Change·case.Refused r) m
+      → Edited (λ N. inserted N p piece) (piece ≡ []) m (Err r) m
   insert-refused r e = edit-refused insertion (piece ≡ []) m r (told e)
     where
       told : refused (refusal_number r) ≡ of_note m (λ N. ruled (insert_rules piece_most N p piece) (tt {0})) → of_note m (λ N. inserted N p piece) ≡ refused (refusal_number r)
@@ -155,7 +154,7 @@ module _ (m : List ℕ) (p : ℕ) (piece : List ℕ) where
     pub insert-done : (later : List ℕ) → Turned (own_of m) (put_in p (decode piece) (text_in (own_of m))) later → (piece ≡ [] → later ≡ own_of m)
         → (after : List ℕ) → after ≡ later ++ drop (need (n_of m)) m
         → (b a : ℕ) → b ≡ (root_of m).info.line_breaks → a ≡ (root_of after).info.line_breaks → (d : ℤ) → d ≡ minus a b
-        → Edited (λ N. inserted N p piece) (piece ≡ []) m (Change·case.By d) after
+        → Edited (λ N. inserted N p piece) (piece ≡ []) m (Ok d) after
     insert-done later t i after is b a x y d f =
         let s = insert-says (note_of m) p piece _ _ (note-accepted m (λ N. ruled (insert_rules piece_most N p piece) (tt {0})) (tt {0}) (sym fine)).1 in
         let size : bytes (decode piece) ≡ length piece = ap length (valid-sound piece s.valid).1 in
@@ -169,7 +168,7 @@ module _ (m : List ℕ) (s e : ℕ) where
   removal N = removed N s e
 
   pub remove-refused : (r : Refusal) → refused (refusal_number r) ≡ of_note m (λ N. ruled (remove_rules N s e) (tt {0}))
-      → Edited (λ N. removed N s e) (s ≡ e) m (Change·case.Refused r) m
+      → Edited (λ N. removed N s e) (s ≡ e) m (Err r) m
   remove-refused r f = edit-refused removal (s ≡ e) m r (told f)
     where
       told : refused (refusal_number r) ≡ of_note m (λ N. ruled (remove_rules N s e) (tt {0})) → of_note m (λ N. removed N s e) ≡ refused (refusal_number r)
@@ -195,7 +194,7 @@ module _ (m : List ℕ) (s e : ℕ) where
     pub remove-done : (later : List ℕ) → Turned (own_of m) (cut_out s e (text_in (own_of m))) later → (s ≡ e → later ≡ own_of m)
         → (after : List ℕ) → after ≡ later ++ drop (need (n_of m)) m
         → (b a : ℕ) → b ≡ (root_of m).info.line_breaks → a ≡ (root_of after).info.line_breaks → (d : ℤ) → d ≡ minus a b
-        → Edited (λ N. removed N s e) (s ≡ e) m (Change·case.By d) after
+        → Edited (λ N. removed N s e) (s ≡ e) m (Ok d) after
     remove-done later t i after is b a x y d f =
         edit-done removal (s ≡ e) m remove-formed (cut_out s e (note_of m).text) comes-to after
         (holding m remove-formed _ later t after is

@@ -1,5 +1,6 @@
 -- The promise of an edit of the note in lent memory, in full: the answer, and the memory afterwards.
-use Rattle.std.specs.Prelude.{◌≡◌, Bool, true, ◌&&◌, List, ℕ, length, drop}
+use Rattle.answer.specs.Answers.{Answer, outcome}
+use Rattle.std.specs.Prelude.{◌≡◌, Bool, true, ◌&&◌, List, ℕ, ℤ, length, drop}
 use Rattle.plain.specs.Count.{lines}
 use Rattle.plain.specs.Outcome.{Outcome, Outcome.value, Outcome.refused, mapped}
 use Rattle.plain_note.specs.Note.{Note, need}
@@ -7,8 +8,6 @@ use Rattle.note_head.specs.Head.{n_of, own_of}
 use Rattle.edit_steps.specs.Held.{Kept}
 use Rattle.memory.specs.Formed.{need_met, tree_right, slots_right, size_right, note_of, of_note}
 use Rattle.plain.specs.Edit.{minus}
-use Rattle.answer.specs.Answers.{change}
-use Rattle.answer.specs.declared.Change.{Change}
 
 -- well formed but for the marks, which are not looked at
 unfoldable pub shaped : List ℕ → Bool
@@ -31,9 +30,9 @@ pub record Holding (m t after : List ℕ) : Type 0 where
 
 -- An edit of the note in the lent memory m that comes to o on paper, a text or a refusal, answered by r; it leaves the memory `after`. It is idle
 -- where what it puts in or takes out is empty.
-pub record Edited (o : Note → Outcome (List ℕ)) (idle : Type 0) (m : List ℕ) (r : Change) (after : List ℕ) : Type 0 where
+pub record Edited (o : Note → Outcome (List ℕ)) (idle : Type 0) (m : List ℕ) (r : Answer ℤ) (after : List ℕ) : Type 0 where
   -- the change of the number of lines, lines afterwards minus lines before, or the refusal
-  pub answered : change r ≡ of_note m (λ N. mapped (λ t. minus (lines t) (lines N.text)) (o N))
+  pub answered : outcome r ≡ of_note m (λ N. mapped (λ t. minus (lines t) (lines N.text)) (o N))
   -- a refused call changes no byte
   pub unchanged : (q : ℕ) → of_note m o ≡ refused q → after ≡ m
   -- an accepted one leaves the text that it comes to

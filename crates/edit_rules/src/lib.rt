@@ -5,11 +5,11 @@ ghost use Rattle.std.specs.Prelude.{◌≡◌, ◌≤◌};
 ghost use Rattle.plain.specs.Outcome.{ruled};
 ghost use Rattle.plain_note.specs.Note.{limit, insert_rules, piece_most};
 ghost use Rattle.plain_note.specs.Edits.{remove_rules};
-ghost use Rattle.answer.specs.Answers.{verdict};
+ghost use Rattle.answer.specs.Answers.{outcome};
 ghost use Rattle.note_head.specs.Head.{n_of};
 ghost use Rattle.memory.specs.Formed.{of_note};
 
-use answer::{Refusal, Verdict};
+use answer::{Answer, Refusal};
 use note_head::{bytes_of, chars_of, slots};
 
 const MAX_PIECE: usize = 256;
@@ -23,39 +23,39 @@ fn most_bytes(m: &[u8]) -> usize
 }
 
 // The insertion of a piece at a place.
-pub fn insert_refusal(m: &[u8], piece: &[u8], p: usize) -> Verdict
-    ensures { verdict result ≡ of_note m.now (λ N. ruled (insert_rules piece_most N p piece.now) tt) }
+pub fn insert_refusal(m: &[u8], piece: &[u8], p: usize) -> Answer<()>
+    ensures { outcome result ≡ of_note m.now (λ N. ruled (insert_rules piece_most N p piece.now) tt) }
 {
     if !memory::check(m) {
-        return Verdict::Refused(Refusal::Memory);
+        return Err(Refusal::Memory);
     }
     if chars_of(m) < p {
-        return Verdict::Refused(Refusal::Place);
+        return Err(Refusal::Place);
     }
     if MAX_PIECE < piece.len() {
-        return Verdict::Refused(Refusal::Piece);
+        return Err(Refusal::Piece);
     }
     if !utf8::valid(piece) {
-        return Verdict::Refused(Refusal::Text);
+        return Err(Refusal::Text);
     }
     if most_bytes(m) < bytes_of(m) + piece.len() {
-        return Verdict::Refused(Refusal::Room);
+        return Err(Refusal::Room);
     }
-    Verdict::Accepted
+    Ok(())
 }
 
 // The removal of the chars [s, e).
-pub fn remove_refusal(m: &[u8], s: usize, e: usize) -> Verdict
-    ensures { verdict result ≡ of_note m.now (λ N. ruled (remove_rules N s e) tt) }
+pub fn remove_refusal(m: &[u8], s: usize, e: usize) -> Answer<()>
+    ensures { outcome result ≡ of_note m.now (λ N. ruled (remove_rules N s e) tt) }
 {
     if !memory::check(m) {
-        return Verdict::Refused(Refusal::Memory);
+        return Err(Refusal::Memory);
     }
     if e < s {
-        return Verdict::Refused(Refusal::Place);
+        return Err(Refusal::Place);
     }
     if chars_of(m) < e {
-        return Verdict::Refused(Refusal::Place);
+        return Err(Refusal::Place);
     }
-    Verdict::Accepted
+    Ok(())
 }

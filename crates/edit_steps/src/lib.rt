@@ -2,7 +2,6 @@
 // alone: what that makes of a part of the tree, how edits are put together, and what the memory holds between two steps.
 #![tactic(auto)]
 
-use answer::Refusal;
 use text_info::TextInfo;
 
 // One node still, with these counts; two, with the counts of the first, the slot of the second and its counts; one that is below its least size; or
@@ -13,5 +12,4 @@ pub enum Edit {
     Split(TextInfo, usize, TextInfo),
     Small(TextInfo),
     Apart,
-    Refused(Refusal),
 }

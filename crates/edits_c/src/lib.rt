@@ -4,26 +4,26 @@
 ghost use Rattle.std.specs.Prelude.{◌≡◌, []};
 ghost use Rattle.plain.specs.Outcome.{kept};
 ghost use Rattle.plain_calls.specs.Calls.{inserting, removing, setting, dropping};
-ghost use Rattle.answer.specs.Answers.{change};
+ghost use Rattle.answer.specs.Answers.{outcome};
 ghost use Rattle.note_head.specs.Writes.{live_put};
 ghost use Rattle.marks.specs.MarkBytes.{mark_put};
 ghost use Rattle.memory.specs.Formed.{of_note};
 ghost use Rattle.told.specs.Told.{code};
 ghost use Rattle.edits_c.specs.Told.{Told, EditTold, MarkTold};
 
-use answer::Change;
+use answer::Answer;
 use told::{code_of, tell};
 
 // Writes the change through `out`; a refusal writes nothing.
-fn tell_change(a: Change, out: &mut i64) -> u8
-    ensures { (result ≡ code (change a)) × (out.new ≡ kept out.old (change a)) }
+fn tell_change(a: Answer<i64>, out: &mut i64) -> u8
+    ensures { (result ≡ code (outcome a)) × (out.new ≡ kept out.old (outcome a)) }
 {
     match a {
-        Change::By(n) => {
+        Ok(n) => {
             *out = n;
             0
         }
-        Change::Refused(q) => answer::number_of(q),
+        Err(q) => u8::from(q),
     }
 }
 

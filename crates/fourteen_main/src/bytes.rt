@@ -3,7 +3,7 @@ ghost use Rattle.std.specs.Prelude.{◌≡◌, true};
 ghost use Rattle.leaf_bytes.specs.Leaf.{leaf_of};
 
 use crate::compare::is;
-use answer::Sides;
+use answer::Answer;
 use check::same;
 use crlf::find_good_split;
 use leaf_split::fix_segment_seam;
@@ -39,8 +39,8 @@ fn seam_gives(
     right: &[u8],
 ) -> bool {
     match fix_segment_seam(l, l_len, r, r_len) {
-        Sides::Are(a, b) => holds(l, a, left) & holds(r, b, right),
-        Sides::Refused(_) => false,
+        Ok((a, b)) => holds(l, a, left) & holds(r, b, right),
+        Err(_) => false,
     }
 }
 

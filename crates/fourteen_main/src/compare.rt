@@ -1,42 +1,42 @@
 // Whether an answer is the one that is due: true only where it is.
 ghost use Rattle.std.specs.Prelude.{◌≡◌, true};
 ghost use Rattle.plain.specs.Outcome.{Outcome.value, Outcome.refused};
-ghost use Rattle.answer.specs.Answers.{number, change};
+ghost use Rattle.answer.specs.Answers.{outcome};
 
-use answer::{Change, Number};
+use answer::Answer;
 
-pub(crate) fn is(a: Number, due: usize) -> bool
-    ensures { result ≡ true → number a ≡ value due }
+pub(crate) fn is(a: Answer<usize>, due: usize) -> bool
+    ensures { result ≡ true → outcome a ≡ value due }
 {
     match a {
-        Number::Is(n) => n == due,
-        Number::Refused(_) => false,
+        Ok(n) => n == due,
+        Err(_) => false,
     }
 }
 
-pub(crate) fn is_refused(a: Number, due: u8) -> bool
-    ensures { result ≡ true → number a ≡ refused due }
+pub(crate) fn is_refused(a: Answer<usize>, due: u8) -> bool
+    ensures { result ≡ true → outcome a ≡ refused due }
 {
     match a {
-        Number::Is(_) => false,
-        Number::Refused(r) => answer::number_of(r) == due,
+        Ok(_) => false,
+        Err(r) => u8::from(r) == due,
     }
 }
 
-pub(crate) fn changes(a: Change, due: i64) -> bool
-    ensures { result ≡ true → change a ≡ value due }
+pub(crate) fn changes(a: Answer<i64>, due: i64) -> bool
+    ensures { result ≡ true → outcome a ≡ value due }
 {
     match a {
-        Change::By(d) => d == due,
-        Change::Refused(_) => false,
+        Ok(d) => d == due,
+        Err(_) => false,
     }
 }
 
-pub(crate) fn is_refused_change(a: Change, due: u8) -> bool
-    ensures { result ≡ true → change a ≡ refused due }
+pub(crate) fn is_refused_change(a: Answer<i64>, due: u8) -> bool
+    ensures { result ≡ true → outcome a ≡ refused due }
 {
     match a {
-        Change::By(_) => false,
-        Change::Refused(r) => answer::number_of(r) == due,
+        Ok(_) => false,
+        Err(r) => u8::from(r) == due,
     }
 }

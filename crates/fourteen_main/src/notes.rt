@@ -1,6 +1,6 @@
 // The items of the note, on the calls of crate note.
 use crate::compare::{changes, is, is_refused, is_refused_change};
-use answer::Verdict;
+use answer::Answer;
 use note::{
     char_to_byte, char_to_line, char_to_utf16_cu, insert, line_to_char, mark_line, mark_place,
     set_mark,
@@ -9,8 +9,8 @@ use note::{
 // An empty note of 17 slots in the memory.
 fn opens(m: &mut [u8]) -> bool {
     match note::open(m, 17) {
-        Verdict::Accepted => true,
-        Verdict::Refused(_) => false,
+        Ok(()) => true,
+        Err(_) => false,
     }
 }
 

@@ -1,5 +1,7 @@
 -- The laws of slots taken and given back, where the free slots are a chain: it loses its first slot, or has one more before it, and no other
 -- slot changes, nor any byte of the memory's head but the first free slot. All for a memory of fewer than 2^32 slots, whose numbers the four bytes hold.
+use Rattle.answer.specs.Answers.{Answer, outcome}
+use Rattle.std.specs.Prelude.{Ok}
 use mathlib.Core.Path.{◌≡◌, refl, sym, ap, subst, ◌∙◌}
 use mathlib.Core.Bool.{true}
 use mathlib.Core.List.{List}
@@ -11,12 +13,7 @@ use borrow.Author.Tests.{eqb-true}
 use Rattle.plain_note.specs.Note.{head_size}
 use Rattle.plain.specs.Outcome.{Outcome, Outcome.value, kept, mapped}
 use Rattle.plain.proofs.Logic.{cut}
-use Rattle.answer.specs.Answers.{number}
-use Rattle.answer.specs.declared.Number.{Number}
-use Rattle.answer.specs.declared.Number.TheVariants as Number·case
-use Rattle.answer.specs.declared.Verdict.{Verdict}
-use Rattle.answer.specs.declared.Verdict.TheVariants as Verdict·case
-use Rattle.answer.proofs.Unique.{number-one, verdict-one}
+use Rattle.answer.proofs.Unique.{answer-one, answer-one}
 use Rattle.octets.specs.Big.{four_at}
 use Rattle.pool.specs.Slot.{slot_start, slot_of, kind_of, next_of, head_bytes, head_put}
 use Rattle.pool.specs.Calls.{Wrote}
@@ -257,28 +254,28 @@ module _ (m : List ℕ) (n : ℕ) (few : n < 4294967296) (w : Slotted m n) where
 
   -- ── the calls ──
 
-  module _ (r : Number) (after : List ℕ) (t : Took (taken m) m r after) where
-    took_it : (l : free_of m < n) → (r ≡ Number·case.Is (free_of m)) × Taken m n (free_of m) after
+  module _ (r : Answer ℕ) (after : List ℕ) (t : Took (taken m) m r after) where
+    took_it : (l : free_of m < n) → (r ≡ Ok (free_of m)) × Taken m n (free_of m) after
     took_it l =
         let e = taken-value l in
         let p = t.memory ∙ ap (λ (o : Outcome (ℕ × List ℕ)). kept m (mapped (λ q. q.1) o)) e in
-        (number-one r (Number·case.Is (free_of m)) (t.answered ∙ ap (mapped (λ q. q.0)) e), subst (Taken m n (free_of m)) (sym p) (taken_is l))
+        (answer-one r (Ok (free_of m)) (t.answered ∙ ap (mapped (λ q. q.0)) e), subst (Taken m n (free_of m)) (sym p) (taken_is l))
 
     -- THEOREM: where a slot is free, the call takes one
-    pub took-there : 1 ≤ spare m n → (r ≡ Number·case.Is (free_of m)) × Taken m n (free_of m) after
+    pub took-there : 1 ≤ spare m n → (r ≡ Ok (free_of m)) × Taken m n (free_of m) after
     took-there h = took_it (first-there h)
 
     -- THEOREM: a slot that the call answers was taken
-    pub took-opened : (u : ℕ) → r ≡ Number·case.Is u → Taken m n u after
+    pub took-opened : (u : ℕ) → r ≡ Ok u → Taken m n u after
     took-opened u e =
-        let l : free_of m < n = omega (arith, taken-some m u (sym t.answered ∙ ap number e), w.long) in
+        let l : free_of m < n = omega (arith, taken-some m u (sym t.answered ∙ ap outcome e), w.long) in
         let o = took_it l in
-        let y : value (free_of m) ≡ value u = sym (ap number o.0) ∙ ap number e in
+        let y : value (free_of m) ≡ value u = sym (ap outcome o.0) ∙ ap outcome e in
         let z : free_of m ≡ u = cc in
         subst (λ (x : ℕ). Taken m n x after) z o.1
 
   -- THEOREM: a slot that is not free is given back
-  pub gave : (s : ℕ) → s < n → free m n s ≡ 0 → (v : Verdict) (after : List ℕ) → Wrote (given m s) m v after → (v ≡ Verdict·case.Accepted) × Given m n s after
+  pub gave : (s : ℕ) → s < n → free m n s ≡ 0 → (v : Answer (Unit {0})) (after : List ℕ) → Wrote (given m s) m v after → (v ≡ (Ok tt)) × Given m n s after
   gave s l g v after t =
       let e = given-value s l g in
-      (verdict-one v Verdict·case.Accepted (t.answered ∙ ap (mapped (λ x. tt)) e), subst (Given m n s) (sym (t.memory ∙ ap (λ (o : Outcome (List ℕ)). kept m o) e)) (given_is s l g))
+      (answer-one v (Ok tt) (t.answered ∙ ap (mapped (λ x. tt)) e), subst (Given m n s) (sym (t.memory ∙ ap (λ (o : Outcome (List ℕ)). kept m o) e)) (given_is s l g))

@@ -1,8 +1,7 @@
 -- What taking a free slot and giving one back come to: document 01's refusal 2, the answer, and every byte afterwards.
+use Rattle.answer.specs.Answers.{Answer, outcome}
 use Rattle.std.specs.Prelude.{◌≡◌, Bool, ◌||◌, List, [], ◌∷◌, ℕ}
 use Rattle.plain.specs.Outcome.{Outcome, ruled, past, kept, mapped}
-use Rattle.answer.specs.Answers.{number}
-use Rattle.answer.specs.declared.Number.{Number}
 use Rattle.pool.specs.Slot.{kind_of, next_of, head_put}
 use Rattle.pool.specs.Calls.{outside}
 use Rattle.note_head.specs.Head.{free_of}
@@ -31,6 +30,6 @@ unfoldable pub given : List ℕ → ℕ → Outcome (List ℕ)
 given m s = ruled ((2, no_gift m s) ∷ []) (given_memory m s)
 
 -- A call that writes and answers a number. A refused one changes no byte.
-pub record Took (o : Outcome (ℕ × List ℕ)) (before : List ℕ) (r : Number) (after : List ℕ) : Type 0 where
-  pub answered : number r ≡ mapped (λ p. p.0) o
+pub record Took (o : Outcome (ℕ × List ℕ)) (before : List ℕ) (r : Answer ℕ) (after : List ℕ) : Type 0 where
+  pub answered : outcome r ≡ mapped (λ p. p.0) o
   pub memory : after ≡ kept before (mapped (λ p. p.1) o)

@@ -1,9 +1,9 @@
 -- What the steps of a listing promise. m and m' are the lent memory before and after, o and o' the output, b and b' the buffer. The input goes on behind the
 -- bytes that are there, with whatever more comes.
-use Rattle.std.specs.Prelude.{◌≡◌, Bool, true, false, not, ◌||◌, cond, List, [], ◌∷◌, ◌++◌, ◌⊎◌, ℕ, ◌+◌, ◌-◌, ◌*◌, ◌^◌, ◌≤◌, ◌<◌, length, take, drop}
+use Rattle.std.specs.Prelude.{◌≡◌, Bool, true, false, not, ◌||◌, cond, List, [], ◌∷◌, ◌++◌, ◌⊎◌, ℕ, ◌+◌, ◌-◌, ◌*◌, ◌^◌, ◌≤◌, ◌<◌, length, take, drop, Ok, Err}
 use Rattle.plain.specs.Outcome.{Outcome, Outcome.value, Outcome.refused, Rule, ruled, past, mapped}
 use Rattle.plain_calls.specs.Calls.{Call}
-use Rattle.answer.specs.Answers.{refusal_number}
+use Rattle.answer.specs.Answers.{Answer, outcome}
 use Rattle.memory.specs.Formed.{well_formed, note_of}
 use Rattle.note_promise.specs.Called.{Left}
 use Rattle.plain_journal.specs.Fields.{asked, fields_of}
@@ -19,8 +19,6 @@ use Rattle.journal.specs.declared.fields.Field.TheVariants.{Short, Listed, Bad}
 use Rattle.journal.specs.declared.fields.Fed.{Fed}
 use Rattle.journal.specs.declared.Served.{Served}
 use Rattle.journal.specs.declared.State.{State}
-use Rattle.journal.specs.declared.Turned.{Turned}
-use Rattle.journal.specs.declared.Turned.TheVariants as Turned·case
 
 -- ── one field ──
 
@@ -107,10 +105,6 @@ pub record Advances (m m' b b' : List ℕ) (st : State) (o o' : List ℕ) (r : S
 abbrev pub turn_rules : List ℕ → List ℕ → State → List ℕ → List Rule
 turn_rules m b st o = (2, not (well_formed m)) ∷ (3, past st.fill (length b) || past st.k (2 ^ 64 - 1 - st.fill)) ∷ (9, past 20690 (length o)) ∷ []
 
-abbrev pub turned : Turned → Outcome State
-turned (Turned·case.On s) = value s
-turned (Turned·case.Refused r) = refused (refusal_number r)
-
 -- no byte has changed
 abbrev pub Untouched : List ℕ → List ℕ → List ℕ → List ℕ → List ℕ → List ℕ → Type 0
 Untouched m m' b b' o o' = (m' ≡ m) × (b' ≡ b) × (o' ≡ o)
@@ -124,9 +118,9 @@ abbrev pub Taken : List ℕ → List ℕ → List ℕ → List ℕ → State →
 Taken m m' b b' st o o' (value s) = (st.over ≡ true → (s ≡ rested st) × Untouched m m' b b' o o') × (st.over ≡ false → Advances m m' b b' st o o' s)
 Taken m m' b b' st o o' (refused q) = Untouched m m' b b' o o'
 
-pub record Turns (m m' b b' : List ℕ) (st : State) (o o' : List ℕ) (r : Turned) : Type 0 where
-  pub answered : mapped {B = Unit {0}} (λ s. tt) (turned r) ≡ ruled (turn_rules m b st o) tt
-  pub taken : Taken m m' b b' st o o' (turned r)
+pub record Turns (m m' b b' : List ℕ) (st : State) (o o' : List ℕ) (r : Answer State) : Type 0 where
+  pub answered : mapped {B = Unit {0}} (λ s. tt) (outcome r) ≡ ruled (turn_rules m b st o) tt
+  pub taken : Taken m m' b b' st o o' (outcome r)
 
 -- what a program starts with
 abbrev pub started : State

@@ -14,7 +14,7 @@ ghost use Rattle.plain_journal.specs.Replay.{slots};
 ghost use Rattle.journal.specs.Turns.{started as startedState, Finishes, Serves, Advances, Turns};
 
 use crate::fields::{FIELD, ROOM, whole_fields};
-use answer::{Refusal, Verdict};
+use answer::{Answer, Refusal};
 use listing_end::put_ending;
 use listing_lines::put_field;
 
@@ -32,13 +32,6 @@ pub struct State {
     pub put: usize,
 }
 
-// A turn's answer.
-#[derive(Clone, Copy)]
-pub enum Turned {
-    On(State),
-    Refused(Refusal),
-}
-
 #[derive(Clone, Copy)]
 struct Served {
     used: usize,
@@ -48,7 +41,7 @@ struct Served {
 }
 
 // Makes the empty note that a journal is replayed on: refused by 1 where the memory is shorter than 80 slots need.
-pub fn start(m: &mut [u8]) -> Verdict
+pub fn start(m: &mut [u8]) -> Answer<()>
     ensures { Wrote (opens m.old slots) m.old result m.new }
 {
     note::open(m, SLOTS)
@@ -128,14 +121,8 @@ fn slide(buf: &mut [u8], from: usize, to: usize) -> usize
     requires { (from ≤ to) × (to ≤ length buf.old) }
     ensures { (result ≡ to - from) × (take result buf.new ≡ take (to - from) (drop from buf.old)) }
 {
-    let n = to - from;
-    let mut i = 0;
-    while i < n {
-        let b = buf[from + i];
-        buf[i] = b;
-        i += 1;
-    }
-    n
+    buf.copy_within(from..to, 0);
+    to - from
 }
 
 // What is whole is listed, and what is left moved to the front.
@@ -163,24 +150,24 @@ fn advance(m: &mut [u8], buf: &mut [u8], st: State, out: &mut [u8]) -> State
 
 // A turn: refused by 2 where the memory is not well formed, by 3 where `fill` is past the buffer's end or the fields' numbers would pass 64 bits, by 9 where the
 // output is shorter than 20,690 bytes. A refused one changes nothing. Nor does one that comes when the listing is complete, which puts nothing.
-pub fn turn(m: &mut [u8], buf: &mut [u8], st: State, out: &mut [u8]) -> Turned
+pub fn turn(m: &mut [u8], buf: &mut [u8], st: State, out: &mut [u8]) -> Answer<State>
     ensures { Turns m.old m.new buf.old buf.new st out.old out.new result }
 {
     if !note::check(m) {
-        return Turned::Refused(Refusal::Memory);
+        return Err(Refusal::Memory);
     }
     let fill = st.fill;
     if buf.len() < fill {
-        return Turned::Refused(Refusal::Place);
+        return Err(Refusal::Place);
     }
     if u64::MAX - (fill as u64) < st.k {
-        return Turned::Refused(Refusal::Place);
+        return Err(Refusal::Place);
     }
     if out.len() < ROOM {
-        return Turned::Refused(Refusal::Output);
+        return Err(Refusal::Output);
     }
     if st.over {
-        return Turned::On(State {
+        return Ok(State {
             fill,
             k: st.k,
             last: st.last,
@@ -188,5 +175,5 @@ pub fn turn(m: &mut [u8], buf: &mut [u8], st: State, out: &mut [u8]) -> Turned
             put: 0,
         });
     }
-    Turned::On(advance(m, buf, st, out))
+    Ok(advance(m, buf, st, out))
 }

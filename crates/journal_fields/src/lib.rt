@@ -2,12 +2,12 @@
 #![tactic(auto)]
 
 ghost use Rattle.std.specs.Prelude.{◌≡◌};
-ghost use Rattle.answer.specs.Answers.{number, change};
+ghost use Rattle.answer.specs.Answers.{outcome};
 ghost use Rattle.plain_journal.specs.Fields.{asked};
 ghost use Rattle.plain_journal.specs.Replay.{code_of};
 ghost use Rattle.journal_fields.specs.Applied.{Applied, Takes};
 
-use answer::{Change, Number, number_of};
+use answer::Answer;
 use framing::field_bytes;
 use octets::number_at;
 
@@ -25,22 +25,13 @@ pub enum Front {
     Whole { used: usize, done: Done },
 }
 
-fn code_of_change(answer: Change) -> u8
-    ensures { result ≡ code_of (change answer) }
+fn code_of<T: Drop>(answer: Answer<T>) -> u8
+    ensures { result ≡ code_of (outcome answer) }
 {
-    let Change::Refused(why) = answer else {
-        return 0;
-    };
-    number_of(why)
-}
-
-fn code_of_number(answer: Number) -> u8
-    ensures { result ≡ code_of (number answer) }
-{
-    let Number::Refused(why) = answer else {
-        return 0;
-    };
-    number_of(why)
+    match answer {
+        Ok(_) => 0,
+        Err(why) => u8::from(why),
+    }
 }
 
 // Tag 1: a place, and the piece.
@@ -52,7 +43,7 @@ fn insert_field(m: &mut [u8], body: &[u8]) -> Done
     }
     let place = number_at(body, 0) as usize;
     let answer = note::insert(m, place, &body[4..]);
-    Done::Code(code_of_change(answer))
+    Done::Code(code_of(answer))
 }
 
 // Tag 2: start and end.
@@ -65,7 +56,7 @@ fn remove_field(m: &mut [u8], body: &[u8]) -> Done
     let start = number_at(body, 0) as usize;
     let end = number_at(body, 4) as usize;
     let answer = note::remove(m, start, end);
-    Done::Code(code_of_change(answer))
+    Done::Code(code_of(answer))
 }
 
 // Tag 3: the place of a mark.
@@ -77,7 +68,7 @@ fn mark_field(m: &mut [u8], body: &[u8]) -> Done
     }
     let place = number_at(body, 0) as usize;
     let answer = note::set_mark(m, place);
-    Done::Code(code_of_number(answer))
+    Done::Code(code_of(answer))
 }
 
 // A field of any tag.

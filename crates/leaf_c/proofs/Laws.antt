@@ -1,4 +1,5 @@
 -- What C is told, from what the calls answer: in each of the two cases of an answer, and for each sign of a sum.
+use Rattle.std.specs.Prelude.{Ok, Err}
 use mathlib.Core.Path.{◌≡◌, refl, ap}
 use mathlib.Core.Bool.{Bool, true, false}
 use mathlib.Core.List.{List}
@@ -6,26 +7,22 @@ use Prim.Native.Nat.{ℕ}
 use native.Mathlib.Omega.{arith}
 use lib.ListN.{length}
 use Rattle.plain.specs.Outcome.{Outcome, Outcome.value, Outcome.refused}
-use Rattle.answer.specs.Answers.{refusal_number}
+use Rattle.answer.specs.Answers.{refusal_number, Answer, outcome}
 use Rattle.answer.specs.declared.Refusal.{Refusal}
-use Rattle.answer.specs.declared.Sides.{Sides}
-use Rattle.answer.specs.declared.Sides.TheVariants as Sides·case
 use Rattle.leaf_bytes.specs.Leaf.{Leaves}
-use Rattle.text_info.specs.Info.{info, Summed}
+use Rattle.text_info.specs.Info.{Summed}
 use Rattle.text_info.specs.declared.TextInfo.{TextInfo}
 use Rattle.text_info.specs.declared.TextSum.{TextSum}
-use Rattle.text_info.specs.declared.Info.{Info}
-use Rattle.text_info.specs.declared.Info.TheVariants as Info·case
 use Rattle.told.specs.Told.{code}
 use Rattle.leaf_c.specs.Told.{LeavesTold, InfoTold, SumTold}
 
-module _ (o : Outcome (List ℕ × List ℕ)) (left right : List ℕ) (x y : ℕ) {s : Sides} {left-after right-after : List ℕ} where
-  pub leaves-are : (l r : ℕ) → s ≡ Sides·case.Are l r → Leaves o left right s left-after right-after
+module _ (o : Outcome (List ℕ × List ℕ)) (left right : List ℕ) (x y : ℕ) {s : Answer (ℕ × ℕ)} {left-after right-after : List ℕ} where
+  pub leaves-are : (l r : ℕ) → s ≡ Ok (l, r) → Leaves o left right s left-after right-after
       → LeavesTold o left right x y 0 left-after right-after l r
   unfolding code
   leaves-are l r e h = go o (rw e at h)
     where
-      go : (o : Outcome (List ℕ × List ℕ)) → Leaves o left right (Sides·case.Are l r) left-after right-after
+      go : (o : Outcome (List ℕ × List ℕ)) → Leaves o left right (Ok (l, r)) left-after right-after
           → LeavesTold o left right x y 0 left-after right-after l r
       go (value t) h =
           let z : ◌≡◌ {A = ℕ × ℕ} (l, r) (length t.0, length t.1) = let a = h.answered in cc in
@@ -38,20 +35,20 @@ module _ (o : Outcome (List ℕ × List ℕ)) (left right : List ℕ) (x y : ℕ
           }
       go (refused k) h = absurd (let z : ◌≡◌ {A = ℕ} 0 1 = let a = h.answered in cc in omega arith)
 
-  pub leaves-refused : (q : Refusal) (n : ℕ) → s ≡ Sides·case.Refused q → n ≡ refusal_number q → Leaves o left right s left-after right-after
+  pub leaves-refused : (q : Refusal) (n : ℕ) → s ≡ Err q → n ≡ refusal_number q → Leaves o left right s left-after right-after
       → LeavesTold o left right x y n left-after right-after x y
   unfolding code
   leaves-refused q n e f h = go o (rw e at h)
     where
-      go : (o : Outcome (List ℕ × List ℕ)) → Leaves o left right (Sides·case.Refused q) left-after right-after
+      go : (o : Outcome (List ℕ × List ℕ)) → Leaves o left right (Err q) left-after right-after
           → LeavesTold o left right x y n left-after right-after x y
       go (value t) h = absurd (let z : ◌≡◌ {A = ℕ} 0 1 = let a = h.answered in cc in omega arith)
       go (refused k) h =
           let z : n ≡ k = let a = h.answered in cc in
           record { coded = z; left-region = h.left-region; right-region = h.right-region; left-length = refl; right-length = refl }
 
-module _ (o : Outcome TextInfo) (b c u l : ℕ) {a : Info} (h : info a ≡ o) where
-  pub info-is : (i : TextInfo) → a ≡ Info·case.Is i → InfoTold o b c u l 0 i.bytes i.chars i.utf16_surrogates i.line_breaks
+module _ (o : Outcome TextInfo) (b c u l : ℕ) {a : Answer TextInfo} (h : outcome a ≡ o) where
+  pub info-is : (i : TextInfo) → a ≡ Ok i → InfoTold o b c u l 0 i.bytes i.chars i.utf16_surrogates i.line_breaks
   unfolding code
   info-is i e = go o (rw e at h)
     where
@@ -67,7 +64,7 @@ module _ (o : Outcome TextInfo) (b c u l : ℕ) {a : Info} (h : info a ≡ o) wh
           }
       go (refused k) h = absurd (let z : ◌≡◌ {A = ℕ} 0 1 = cc in omega arith)
 
-  pub info-refused : (q : Refusal) (n : ℕ) → a ≡ Info·case.Refused q → n ≡ refusal_number q → InfoTold o b c u l n b c u l
+  pub info-refused : (q : Refusal) (n : ℕ) → a ≡ Err q → n ≡ refusal_number q → InfoTold o b c u l n b c u l
   unfolding code
   info-refused q n e f = go o (rw e at h)
     where

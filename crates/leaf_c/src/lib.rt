@@ -5,8 +5,7 @@ ghost use Rattle.leaf_calls.specs.Asked.{asked_by};
 ghost use Rattle.text_info.specs.Info.{leaf_info};
 ghost use Rattle.leaf_c.specs.Told.{LeavesTold, InfoTold, SumTold};
 
-use answer::Sides;
-use text_info::{Info, TextInfo, TextSum};
+use text_info::{TextInfo, TextSum};
 
 // The call with a number, as `leaf_calls` has them. It returns 0 and writes the lengths of the two leaves; or it returns document 01's
 // number of the refusal and writes nothing.
@@ -26,12 +25,12 @@ pub extern "C" fn wol_leaf(
     ensures { LeavesTold (asked_by call left.old len start end piece.now right.old right_len) left.old right.old out_left.old out_right.old result left.new right.new out_left.new out_right.new }
 {
     match leaf_calls::ask_by(call, left, len, start, end, piece, right, right_len) {
-        Sides::Are(l, r) => {
+        Ok((l, r)) => {
             *out_left = l as u64;
             *out_right = r as u64;
             0
         }
-        Sides::Refused(q) => answer::number_of(q),
+        Err(q) => u8::from(q),
     }
 }
 
@@ -47,14 +46,14 @@ pub extern "C" fn wol_text_info(
     ensures { InfoTold (leaf_info text.now) bytes.old chars.old utf16_surrogates.old line_breaks.old result bytes.new chars.new utf16_surrogates.new line_breaks.new }
 {
     match TextInfo::from_str(text) {
-        Info::Is(i) => {
+        Ok(i) => {
             *bytes = i.bytes;
             *chars = i.chars;
             *utf16_surrogates = i.utf16_surrogates;
             *line_breaks = i.line_breaks;
             0
         }
-        Info::Refused(r) => answer::number_of(r),
+        Err(r) => u8::from(r),
     }
 }
 
@@ -85,7 +84,7 @@ pub extern "C" fn wol_text_sum(
         utf16_surrogates: info_utf16_surrogates,
         line_breaks: info_line_breaks,
     };
-    let after = if minus { sum.sub(info) } else { sum.add(info) };
+    let after = if minus { sum - info } else { sum + info };
     *bytes = after.bytes;
     *chars = after.chars;
     *utf16_surrogates = after.utf16_surrogates;

@@ -1,7 +1,7 @@
 -- What each call of a leaf comes to: a question is a call, two regions with a leaf's length each, two indices and a piece, and an answer
 -- is two leaves.
 use Rattle.std.specs.Prelude.{◌||◌, cond, List, [], ◌∷◌, ℕ, ◌-◌, ltb, eqb, length, get_or}
-use Rattle.plain.specs.Outcome.{Outcome, Outcome.refused, mapped}
+use Rattle.plain.specs.Outcome.{Outcome, Outcome.value, Outcome.refused, mapped}
 use Rattle.leaf_bytes.specs.Leaf.{leaf_of}
 use Rattle.node_text.specs.Texts.{edited, split_off, inserted_split, seam_fixed}
 use Rattle.leaf_calls.specs.declared.Call.{Call}
@@ -37,7 +37,12 @@ calls =
     SplitOff ∷
     FixSegmentSeam ∷ []
 
--- by its number; one that names no call is a bad field
+-- the call with a number; one that names no call is a bad field
+unfoldable pub named : ℕ → Outcome Call
+unfolding calls
+named k = cond (eqb k 0 || ltb 10 k) (refused 10) (value (get_or calls (k - 1) FromStr))
+
+-- the answer of the call with a number
 unfoldable pub asked_by : ℕ → List ℕ → ℕ → ℕ → ℕ → List ℕ → List ℕ → ℕ → Outcome (List ℕ × List ℕ)
 unfolding calls
 asked_by k left len s e piece right rlen = cond (eqb k 0 || ltb 10 k) (refused 10) (asked (get_or calls (k - 1) FromStr) left len s e piece right rlen)

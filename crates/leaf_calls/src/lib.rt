@@ -4,11 +4,11 @@
 
 ghost use Rattle.std.specs.Prelude.{◌≡◌, length};
 ghost use Rattle.plain.specs.Outcome.{mapped};
-ghost use Rattle.answer.specs.Answers.{number, sides};
+ghost use Rattle.answer.specs.Answers.{outcome};
 ghost use Rattle.leaf_bytes.specs.Leaf.{leaf_of, Leaves};
-ghost use Rattle.leaf_calls.specs.Asked.{asked, asked_by};
+ghost use Rattle.leaf_calls.specs.Asked.{asked, named, asked_by};
 
-use answer::{Number, Refusal, Sides};
+use answer::{Answer, Refusal};
 
 #[derive(Clone, Copy)]
 pub enum Call {
@@ -24,33 +24,35 @@ pub enum Call {
     FixSegmentSeam,
 }
 
-// The calls in the order of their numbers, from 1.
-const CALLS: [Call; 10] = [
-    Call::FromStr,
-    Call::InsertStr,
-    Call::InsertStrSplit,
-    Call::PushStr,
-    Call::PushStrSplit,
-    Call::Truncate,
-    Call::TruncateFront,
-    Call::RemoveRange,
-    Call::SplitOff,
-    Call::FixSegmentSeam,
-];
+// The call with a number, from 1; a number that names none is refused by 10.
+impl TryFrom<u8> for Call {
+    type Error = Refusal;
 
-// The answer of a call on one leaf, beside the right leaf as it lies.
-fn beside(n: Number, right: &[u8], right_len: usize) -> Sides
-    ensures { sides result ≡ mapped (λ k. (k, length (leaf_of right.now right_len))) (number n) }
-{
-    match n {
-        Number::Refused(r) => Sides::Refused(r),
-        Number::Is(k) => {
-            if right_len < right.len() {
-                return Sides::Are(k, right_len);
-            }
-            Sides::Are(k, right.len())
+    ghost try_from_gives = { λ k r. outcome r ≡ named k };
+
+    #[tactic(auto, unfolding(crate::specs::Asked::named, crate::specs::Asked::calls))]
+    fn try_from(number: u8) -> Answer<Call> {
+        match number {
+            1 => Ok(Call::FromStr),
+            2 => Ok(Call::InsertStr),
+            3 => Ok(Call::InsertStrSplit),
+            4 => Ok(Call::PushStr),
+            5 => Ok(Call::PushStrSplit),
+            6 => Ok(Call::Truncate),
+            7 => Ok(Call::TruncateFront),
+            8 => Ok(Call::RemoveRange),
+            9 => Ok(Call::SplitOff),
+            10 => Ok(Call::FixSegmentSeam),
+            _ => Err(Refusal::Field),
         }
     }
+}
+
+// The answer of a call on one leaf, beside the right leaf as it lies.
+fn beside(n: Answer<usize>, right: &[u8], right_len: usize) -> Answer<(usize, usize)>
+    ensures { outcome result ≡ mapped (λ k. (k, length (leaf_of right.now right_len))) (outcome n) }
+{
+    n.map(|k| (k, right_len.min(right.len())))
 }
 
 fn ask(
@@ -62,7 +64,7 @@ fn ask(
     piece: &[u8],
     right: &mut [u8],
     right_len: usize,
-) -> Sides
+) -> Answer<(usize, usize)>
     ensures { Leaves (asked call left.old len start end piece.now right.old right_len) left.old right.old result left.new right.new }
 {
     match call {
@@ -101,16 +103,9 @@ pub fn ask_by(
     piece: &[u8],
     right: &mut [u8],
     right_len: usize,
-) -> Sides
+) -> Answer<(usize, usize)>
     ensures { Leaves (asked_by call left.old len start end piece.now right.old right_len) left.old right.old result left.new right.new }
 {
-    if call == 0 {
-        return Sides::Refused(Refusal::Field);
-    }
-    if 10 < call {
-        return Sides::Refused(Refusal::Field);
-    }
-    let calls = CALLS;
-    let k = (call - 1) as usize;
-    ask(calls[k], left, len, start, end, piece, right, right_len)
+    let call = Call::try_from(call)?;
+    ask(call, left, len, start, end, piece, right, right_len)
 }

@@ -2,10 +2,10 @@
 ghost use Rattle.std.specs.Prelude.{◌≡◌, ◌+◌, ◌-◌, ◌≤◌, ◌<◌, length, get_or, take, drop};
 ghost use Rattle.plain.specs.Edit.{put_in};
 ghost use Rattle.plain.specs.Outcome.{Outcome.value};
-ghost use Rattle.answer.specs.Answers.{number};
+ghost use Rattle.answer.specs.Answers.{outcome};
 ghost use Rattle.leaf_bytes.specs.Split.{half_split};
 
-use answer::Number;
+use answer::Answer;
 use leaf_bytes::least;
 
 // The byte at an index of the whole.
@@ -35,9 +35,9 @@ fn window(leaf: &[u8], a: usize, string: &[u8], start: usize, end: usize) -> [u8
 }
 
 // Where the whole is split near its half.
-pub(crate) fn half_split(leaf: &[u8], a: usize, string: &[u8]) -> Number
+pub(crate) fn half_split(leaf: &[u8], a: usize, string: &[u8]) -> Answer<usize>
     requires { (a ≤ length leaf.now) × (length leaf.now ≤ 512) × (length string.now ≤ 1024) }
-    ensures { number result ≡ value (half_split (put_in a string.now leaf.now)) }
+    ensures { outcome result ≡ value (half_split (put_in a string.now leaf.now)) }
 {
     let tot_len = leaf.len() + string.len();
     let mid_idx = tot_len / 2;
@@ -45,9 +45,6 @@ pub(crate) fn half_split(leaf: &[u8], a: usize, string: &[u8]) -> Number
     let end = least(mid_idx + 4, tot_len);
     let buf = window(leaf, a, string, start, end);
     let n = end - start;
-    let near = crlf::nearest_internal_break(mid_idx - start, &buf[..n]);
-    let Number::Is(i) = near else {
-        return near;
-    };
-    Number::Is(i + start)
+    let i = crlf::nearest_internal_break(mid_idx - start, &buf[..n])?;
+    Ok(i + start)
 }

@@ -7,27 +7,31 @@ mod sides;
 ghost use Rattle.leaf_bytes.specs.Leaf.{Leaves};
 ghost use Rattle.leaf_bytes.specs.Raw.{halving};
 
-use answer::{Number, Refusal, Sides};
+use answer::{Answer, Refusal};
 use half::half_split;
 use leaf_bytes::{MAX_BYTES, least, room};
 use sides::lay_halves;
 
 // The left side stays where it lies, the right one is laid into another region.
-pub fn halve(region: &mut [u8], len: usize, at: usize, piece: &[u8], right: &mut [u8]) -> Sides
+pub fn halve(
+    region: &mut [u8],
+    len: usize,
+    at: usize,
+    piece: &[u8],
+    right: &mut [u8],
+) -> Answer<(usize, usize)>
     ensures { Leaves (halving region.old len at piece.now right.old) region.old right.old result region.new right.new }
 {
     let held = least(len, region.len());
     if held < at {
-        return Sides::Refused(Refusal::Place);
+        return Err(Refusal::Place);
     }
     if room(region) < len {
-        return Sides::Refused(Refusal::Size);
+        return Err(Refusal::Size);
     }
     if 2 * MAX_BYTES < piece.len() {
-        return Sides::Refused(Refusal::Size);
+        return Err(Refusal::Size);
     }
-    match half_split(&region[..len], at, piece) {
-        Number::Refused(r) => Sides::Refused(r),
-        Number::Is(split) => lay_halves(region, len, at, piece, split, right),
-    }
+    let split = half_split(&region[..len], at, piece)?;
+    lay_halves(region, len, at, piece, split, right)
 }

@@ -2,35 +2,29 @@
 ghost use Rattle.std.specs.Prelude.{◌≡◌, false, [], ◌++◌, ◌+◌, ◌-◌, ◌≤◌, ◌<◌, length, take, drop};
 ghost use Rattle.plain.specs.Edit.{put_in};
 ghost use Rattle.plain.specs.Outcome.{Outcome.value};
-ghost use Rattle.answer.specs.Answers.{number, sides};
+ghost use Rattle.answer.specs.Answers.{outcome};
 ghost use Rattle.leaf_bytes.specs.Leaf.{leaf_of, laid, Leaves};
 ghost use Rattle.octets.specs.Over.{overlaid};
 ghost use Rattle.leaf_bytes.specs.Raw.{cutting};
 
-use answer::{Number, Refusal, Sides};
+use answer::{Answer, Refusal};
 use leaf_bytes::{replace, room};
 
 // A piece laid behind the first `at` bytes; answers how many there are then.
-fn put(region: &mut [u8], at: usize, piece: &[u8]) -> Number
+fn put(region: &mut [u8], at: usize, piece: &[u8]) -> Answer<usize>
     requires { (at + length piece.now ≤ length region.old) × (at + length piece.now ≤ 512) }
-    ensures { (number result ≡ value (at + length piece.now)) × (region.new ≡ overlaid at piece.now region.old) }
+    ensures { (outcome result ≡ value (at + length piece.now)) × (region.new ≡ overlaid at piece.now region.old) }
 {
     replace(region, at, at, at, piece)
 }
 
 // Three pieces laid into a region, one behind the other; answers how long they are.
-fn lay(region: &mut [u8], x: &[u8], y: &[u8], z: &[u8]) -> Number
+fn lay(region: &mut [u8], x: &[u8], y: &[u8], z: &[u8]) -> Answer<usize>
     requires { (length x.now + length y.now + length z.now ≤ length region.old) × (length x.now + length y.now + length z.now ≤ 512) }
-    ensures { (number result ≡ value (length x.now + length y.now + length z.now)) × (region.new ≡ laid region.old (x.now ++ (y.now ++ z.now))) }
+    ensures { (outcome result ≡ value (length x.now + length y.now + length z.now)) × (region.new ≡ laid region.old (x.now ++ (y.now ++ z.now))) }
 {
-    let first = put(&mut *region, 0, x);
-    let Number::Is(i) = first else {
-        return first;
-    };
-    let second = put(&mut *region, i, y);
-    let Number::Is(j) = second else {
-        return second;
-    };
+    let i = put(&mut *region, 0, x)?;
+    let j = put(&mut *region, i, y)?;
     put(region, j, z)
 }
 
@@ -42,14 +36,12 @@ fn lay_before(
     string: &[u8],
     split: usize,
     right: &mut [u8],
-) -> Sides
+) -> Answer<(usize, usize)>
     requires { (a ≤ len) × (len ≤ length region.now) × (split ≤ a) × (len + length string.now - split ≤ length right.old) × (len + length string.now - split ≤ 512) }
-    ensures { (sides result ≡ value (split, len + length string.now - split)) × (right.new ≡ laid right.old (drop split (put_in a string.now (leaf_of region.now len)))) }
+    ensures { (outcome result ≡ value (split, len + length string.now - split)) × (right.new ≡ laid right.old (drop split (put_in a string.now (leaf_of region.now len)))) }
 {
-    match lay(right, &region[split..a], string, &region[a..len]) {
-        Number::Refused(q) => Sides::Refused(q),
-        Number::Is(rest) => Sides::Are(split, rest),
-    }
+    let rest = lay(right, &region[split..a], string, &region[a..len])?;
+    Ok((split, rest))
 }
 
 // Split inside the piece.
@@ -60,18 +52,14 @@ fn lay_within(
     string: &[u8],
     split: usize,
     right: &mut [u8],
-) -> Sides
+) -> Answer<(usize, usize)>
     requires { (a ≤ len) × (len ≤ length region.old) × (a ≤ split) × (split ≤ a + length string.now) × (split ≤ length region.old) × (len + length string.now - split ≤ length right.old) × (split ≤ 512) × (len + length string.now - split ≤ 512) }
-    ensures { (sides result ≡ value (split, len + length string.now - split)) × (region.new ≡ laid region.old (take split (put_in a string.now (leaf_of region.old len)))) × (right.new ≡ laid right.old (drop split (put_in a string.now (leaf_of region.old len)))) }
+    ensures { (outcome result ≡ value (split, len + length string.now - split)) × (region.new ≡ laid region.old (take split (put_in a string.now (leaf_of region.old len)))) × (right.new ≡ laid right.old (drop split (put_in a string.now (leaf_of region.old len)))) }
 {
     let k = split - a;
-    match lay(right, &string[k..], &region[a..len], b"") {
-        Number::Refused(q) => Sides::Refused(q),
-        Number::Is(rest) => match put(region, a, &string[..k]) {
-            Number::Refused(q) => Sides::Refused(q),
-            Number::Is(kept) => Sides::Are(kept, rest),
-        },
-    }
+    let rest = lay(right, &string[k..], &region[a..len], b"")?;
+    let kept = put(region, a, &string[..k])?;
+    Ok((kept, rest))
 }
 
 // Split behind the piece.
@@ -82,18 +70,14 @@ fn lay_behind(
     string: &[u8],
     split: usize,
     right: &mut [u8],
-) -> Sides
+) -> Answer<(usize, usize)>
     requires { (a ≤ len) × (len ≤ length region.old) × (a + length string.now ≤ split) × (split ≤ len + length string.now) × (split ≤ length region.old) × (len + length string.now - split ≤ length right.old) × (split ≤ 512) × (len + length string.now - split ≤ 512) }
-    ensures { (sides result ≡ value (split, len + length string.now - split)) × (region.new ≡ laid region.old (take split (put_in a string.now (leaf_of region.old len)))) × (right.new ≡ laid right.old (drop split (put_in a string.now (leaf_of region.old len)))) }
+    ensures { (outcome result ≡ value (split, len + length string.now - split)) × (region.new ≡ laid region.old (take split (put_in a string.now (leaf_of region.old len)))) × (right.new ≡ laid right.old (drop split (put_in a string.now (leaf_of region.old len)))) }
 {
     let k = split - string.len();
-    match lay(right, &region[k..len], b"", b"") {
-        Number::Refused(q) => Sides::Refused(q),
-        Number::Is(rest) => match replace(region, k, a, a, string) {
-            Number::Refused(q) => Sides::Refused(q),
-            Number::Is(kept) => Sides::Are(kept, rest),
-        },
-    }
+    let rest = lay(right, &region[k..len], b"", b"")?;
+    let kept = replace(region, k, a, a, string)?;
+    Ok((kept, rest))
 }
 
 // Split anywhere; answers how long the sides are.
@@ -104,9 +88,9 @@ fn lay_split(
     string: &[u8],
     split: usize,
     right: &mut [u8],
-) -> Sides
+) -> Answer<(usize, usize)>
     requires { (a ≤ len) × (len ≤ length region.old) × (split ≤ len + length string.now) × (split ≤ length region.old) × (len + length string.now - split ≤ length right.old) × (split ≤ 512) × (len + length string.now - split ≤ 512) }
-    ensures { (sides result ≡ value (split, len + length string.now - split)) × (region.new ≡ laid region.old (take split (put_in a string.now (leaf_of region.old len)))) × (right.new ≡ laid right.old (drop split (put_in a string.now (leaf_of region.old len)))) }
+    ensures { (outcome result ≡ value (split, len + length string.now - split)) × (region.new ≡ laid region.old (take split (put_in a string.now (leaf_of region.old len)))) × (right.new ≡ laid right.old (drop split (put_in a string.now (leaf_of region.old len)))) }
 {
     if split <= a {
         return lay_before(region, len, a, string, split, right);
@@ -125,16 +109,16 @@ pub(crate) fn lay_halves(
     string: &[u8],
     split: usize,
     right: &mut [u8],
-) -> Sides
+) -> Answer<(usize, usize)>
     requires { (a ≤ len) × (len ≤ length region.old) × (split ≤ len + length string.now) × (len + length string.now < 65536) }
     ensures { Leaves (cutting [] false region.old right.old (put_in a string.now (leaf_of region.old len)) split) region.old right.old result region.new right.new }
 {
     if room(region) < split {
-        return Sides::Refused(Refusal::Size);
+        return Err(Refusal::Size);
     }
     let rest = len + string.len() - split;
     if room(right) < rest {
-        return Sides::Refused(Refusal::Size);
+        return Err(Refusal::Size);
     }
     lay_split(region, len, a, string, split, right)
 }

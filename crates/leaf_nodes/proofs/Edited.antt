@@ -1,4 +1,6 @@
 -- A leaf edited as text: from what the check of the call answered to the memory that `Calls` asks for.
+use Rattle.answer.specs.Answers.{Answer, outcome}
+use Rattle.std.specs.Prelude.{Ok, Err}
 use mathlib.Core.Path.{◌≡◌, sym, subst, ◌∙◌}
 use mathlib.Core.Bool.{true}
 use mathlib.Core.List.{List, [], ◌∷◌}
@@ -7,10 +9,7 @@ use native.Mathlib.Omega.{arith}
 use lib.ListN.{length}
 use lib.Seq.{length-take-le}
 use Rattle.plain.specs.Outcome.{ruled}
-use Rattle.answer.specs.Answers.{number}
 use Rattle.answer.specs.declared.Refusal.{Refusal}
-use Rattle.answer.specs.declared.Number.{Number}
-use Rattle.answer.specs.declared.Number.TheVariants as Number·case
 use Rattle.leaf_bytes.specs.Leaf.{leaf_of}
 use Rattle.leaf_bytes.specs.Raw.{replacing}
 use Rattle.node_text.specs.Texts.{off_chars, no_text}
@@ -22,17 +21,17 @@ use Rattle.nodes.specs.Calls.{leaf_edited, LeafWrote}
 use Rattle.nodes.proofs.Heads.{leaf-says}
 use Rattle.nodes.proofs.Copied.{wrote_as, wrote-not, edit-is}
 
-module _ (m : List ℕ) (s n i e : ℕ) (piece : List ℕ) (leaf : is_leaf m s ≡ true) (len : len_of m s ≡ n) (r : Number)
-    (promise : number r ≡ ruled (off_chars (leaf_of (region_of m s) n) i e ∷ no_text (leaf_of (region_of m s) n) piece ∷ []) (length (leaf_of (region_of m s) n))) where
+module _ (m : List ℕ) (s n i e : ℕ) (piece : List ℕ) (leaf : is_leaf m s ≡ true) (len : len_of m s ≡ n) (r : Answer ℕ)
+    (promise : outcome r ≡ ruled (off_chars (leaf_of (region_of m s) n) i e ∷ no_text (leaf_of (region_of m s) n) piece ∷ []) (length (leaf_of (region_of m s) n))) where
   size : n ≡ length (leaf_of (region_of m s) n)
   size = let f = leaf-says m s leaf in sym (length-take-le n (region_of m s) (omega (arith, region-length m s f.0, f.2)))
 
-  pub edit-not : (q : Refusal) → r ≡ Number·case.Refused q → LeafWrote (leaf_edited m s i e piece) m s r m
+  pub edit-not : (q : Refusal) → r ≡ Err q → LeafWrote (leaf_edited m s i e piece) m s r m
   edit-not q z =
-      subst (λ (x : Number). LeafWrote (leaf_edited m s i e piece) m s x m) (sym z)
+      subst (λ (x : Answer ℕ). LeafWrote (leaf_edited m s i e piece) m s x m) (sym z)
       (wrote-not _ m s q (edit-is m s i e piece n leaf len ∙ edit-refused (region_of m s) n i e piece n size r promise q z))
 
-  pub edit-done : (k : ℕ) → r ≡ Number·case.Is k → (a : Number) (after : List ℕ) → LeafWrote (replacing (region_of m s) n i e piece) m s a after
+  pub edit-done : (k : ℕ) → r ≡ Ok k → (a : Answer ℕ) (after : List ℕ) → LeafWrote (replacing (region_of m s) n i e piece) m s a after
       → LeafWrote (leaf_edited m s i e piece) m s a after
   edit-done k z a after w =
       wrote_as _ m s (replacing (region_of m s) n i e piece) a after

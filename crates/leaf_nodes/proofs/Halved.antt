@@ -1,4 +1,6 @@
 -- A leaf parted in two slots: from what the calls of the layers below promise to the memory that `Calls` asks for.
+use Rattle.answer.specs.Answers.{Answer, outcome}
+use Rattle.std.specs.Prelude.{Ok, Err}
 use mathlib.Core.Path.{◌≡◌, sym, ap, subst, ◌∙◌}
 use mathlib.Core.Bool.{false}
 use mathlib.Core.List.{List}
@@ -8,11 +10,7 @@ use lib.ListN.{length, take, drop, length-append}
 use lib.Seq.{take_at}
 use borrow.Rule.Slice.PartMut.{put_mid}
 use Rattle.plain.specs.Outcome.{Outcome, Outcome.value, Outcome.refused}
-use Rattle.answer.specs.Answers.{sides}
 use Rattle.answer.specs.declared.Refusal.{Refusal}
-use Rattle.answer.specs.declared.Sides.{Sides}
-use Rattle.answer.specs.declared.Sides.TheVariants as Sides·case
-use Rattle.answer.specs.declared.Verdict.{Verdict}
 use Rattle.leaf_bytes.specs.Leaf.{laid, Leaves}
 use Rattle.leaf_bytes.proofs.Opened.{never}
 use Rattle.leaf_bytes.proofs.Rules.{leaves-same}
@@ -33,7 +31,7 @@ unfolding inserted_split
 rooms region n i piece x y e = rw e
 
 module _ (m : List ℕ) (s : ℕ) (h : slot_start s + 640 ≤ length m) (a end : ℕ) (f : a ≡ slot_start s + 128) (g : end ≡ a + 512) (right : ℕ) (there : slot_start right + 640 ≤ length m)
-    (n i : ℕ) (piece side : List ℕ) (room : length side ≡ 512) (r : Sides) (y z : List ℕ)
+    (n i : ℕ) (piece side : List ℕ) (room : length side ≡ 512) (r : Answer (ℕ × ℕ)) (y z : List ℕ)
     (promise : Leaves (inserted_split (take (end - a) (drop a m)) n i piece side) (take (end - a) (drop a m)) side r y z) where
   abbrev halved : Outcome (List ℕ × List ℕ)
   halved = inserted_split (region_of m s) n i piece (region_of m right)
@@ -47,14 +45,14 @@ module _ (m : List ℕ) (s : ℕ) (h : slot_start s + 640 ≤ length m) (a end :
       (rooms (region_of m s) n i piece side (region_of m right) (room ∙ sym (region-length m right there)))
       (subst (λ (b : List ℕ). Leaves (inserted_split b n i piece side) b side r y z) (region-lent m s a end f g) promise)
 
-  pub halve-not : (q : Refusal) → r ≡ Sides·case.Refused q → LeavesWrote halved m s right r back
+  pub halve-not : (q : Refusal) → r ≡ Err q → LeavesWrote halved m s right r back
   halve-not q e = go halved now-regions
     where
       go : (o : Outcome (List ℕ × List ℕ)) → Leaves o (region_of m s) side r y z → LeavesWrote o m s right r back
-      go (value t) w = absurd (never _ (length t.0, length t.1) (sym (ap sides e) ∙ w.answered))
+      go (value t) w = absurd (never _ (length t.0, length t.1) (sym (ap outcome e) ∙ w.answered))
       go (refused k) w = record { answered = w.answered; memory = lent_same m s h a end f g y (w.left-region ∙ sym (region-lent m s a end f g)) }
 
-  module _ (l k : ℕ) (e : r ≡ Sides·case.Are l k) where
+  module _ (l k : ℕ) (e : r ≡ Ok (l, k)) where
     two : GaveTwo halved (region_of m s) side l k y z
     two = gave-two halved (region_of m s) side r y z l k now-regions e
 
@@ -85,7 +83,7 @@ module _ (m : List ℕ) (s : ℕ) (h : slot_start s + 640 ≤ length m) (a end :
     back-there t o = not-outside back t (omega (arith, lent-size m s h a end f g two.text y left-small left_laid))
 
     -- and with the head of the left leaf set too
-    pub right_there : (v : Verdict) (after : List ℕ) → Wrote (head_set back s 1 l 512 0) back v after → outside after right ≡ false
+    pub right_there : (v : Answer (Unit {0})) (after : List ℕ) → Wrote (head_set back s 1 l 512 0) back v after → outside after right ≡ false
     right_there v after w =
         let made : after ≡ leaf_put m s two.text = leaf-made m s h a end f g two.text y v after left-small left_laid (subst (λ (j : ℕ). Wrote (head_set back s 1 j 512 0) back v after) (sym two.size) w) in
         not-outside after right (omega (arith, ap length made, leaf-size m s two.text h left-small))
@@ -94,7 +92,7 @@ module _ (m : List ℕ) (s : ℕ) (h : slot_start s + 640 ≤ length m) (a end :
     left-made =
         ap (λ (j : ℕ). head_put back s 1 j 0) (sym two.size) ∙ ap (λ (b : List ℕ). head_put b s 1 (length two.text) 0) (lent-put m s h a end f g two.text y left-small left_laid)
 
-    pub halve-done : (v : Sides) (last : List ℕ) → sides v ≡ value (l, length (take k z)) → last ≡ leaf_put (head_put back s 1 l 0) right (take k z) → LeavesWrote halved m s right v last
+    pub halve-done : (v : Answer (ℕ × ℕ)) (last : List ℕ) → outcome v ≡ value (l, length (take k z)) → last ≡ leaf_put (head_put back s 1 l 0) right (take k z) → LeavesWrote halved m s right v last
     halve-done v last d t =
         subst (λ (o : Outcome (List ℕ × List ℕ)). LeavesWrote o m s right v last) (sym two.is)
         (record {

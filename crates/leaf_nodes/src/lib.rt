@@ -4,7 +4,7 @@
 
 ghost use Rattle.std.specs.Prelude.{◌≡◌, false, not, [], ◌∷◌, ◌≤◌, length};
 ghost use Rattle.plain.specs.Outcome.{Outcome.value, ruled, past};
-ghost use Rattle.answer.specs.Answers.{number, verdict, sides};
+ghost use Rattle.answer.specs.Answers.{outcome};
 ghost use Rattle.leaf_bytes.specs.Leaf.{leaf_of, Leaf};
 ghost use Rattle.leaf_bytes.specs.Raw.{replacing};
 ghost use Rattle.node_text.specs.Texts.{off_chars, no_text, inserted_split};
@@ -13,134 +13,122 @@ ghost use Rattle.pool.specs.Calls.{outside};
 ghost use Rattle.nodes.specs.Node.{is_leaf, leaf_put};
 ghost use Rattle.nodes.specs.Calls.{text_read, leaf_replaced, leaf_edited, leaf_halved, LeafWrote, LeavesWrote};
 
-use answer::{Number, Refusal, Sides, Verdict};
+use answer::{Answer, Refusal};
 use leaf_bytes::MAX_BYTES;
 use pool::{Head, head_of, region_start, set_leaf};
 
 // How many bytes the leaf in a slot has.
-fn leaf_of(m: &[u8], slot: usize) -> Number
-    ensures { number result ≡ ruled ((2, not (is_leaf m.now slot)) ∷ []) (len_of m.now slot) }
+fn leaf_of(m: &[u8], slot: usize) -> Answer<usize>
+    ensures { outcome result ≡ ruled ((2, not (is_leaf m.now slot)) ∷ []) (len_of m.now slot) }
 {
-    match head_of(m, slot) {
-        Head::Leaf(n) => Number::Is(n),
-        Head::List(_) => Number::Refused(Refusal::Memory),
-        Head::Free(_) => Number::Refused(Refusal::Memory),
-        Head::Refused(q) => Number::Refused(q),
-    }
+    let Head::Leaf(n) = head_of(m, slot)? else {
+        return Err(Refusal::Memory);
+    };
+    Ok(n)
 }
 
 // Copies a leaf's text to the front of a region.
-pub fn text_of(m: &[u8], slot: usize, out: &mut [u8]) -> Number
+pub fn text_of(m: &[u8], slot: usize, out: &mut [u8]) -> Answer<usize>
     ensures { Leaf (text_read m.now slot (length out.old)) out.old result out.new }
 {
-    let size = leaf_of(m, slot);
-    let Number::Is(n) = size else {
-        return size;
-    };
+    let n = leaf_of(m, slot)?;
     copy_text(m, slot, n, out)
 }
 
 // The first n bytes of a slot's region: refused by 9 where the output is shorter.
-fn copy_text(m: &[u8], slot: usize, n: usize, out: &mut [u8]) -> Number
+fn copy_text(m: &[u8], slot: usize, n: usize, out: &mut [u8]) -> Answer<usize>
     requires { (outside m.now slot ≡ false) × (n ≤ 512) }
     ensures { Leaf (ruled ((9, past n (length out.old)) ∷ []) (leaf_of (region_of m.now slot) n)) out.old result out.new }
 {
-    let start = region_start(m, slot);
-    let Number::Is(at) = start else {
-        return start;
-    };
+    let at = region_start(m, slot)?;
     if out.len() < n {
-        return Number::Refused(Refusal::Output);
+        return Err(Refusal::Output);
     }
     leaf_bytes::replace(out, 0, 0, 0, &m[at..at + n])
 }
 
 // The bytes [start, end) of the leaf of n bytes in a slot give way to a piece.
-fn replace_at(m: &mut [u8], slot: usize, n: usize, start: usize, end: usize, piece: &[u8]) -> Number
+fn replace_at(
+    m: &mut [u8],
+    slot: usize,
+    n: usize,
+    start: usize,
+    end: usize,
+    piece: &[u8],
+) -> Answer<usize>
     requires { outside m.old slot ≡ false }
     ensures { LeafWrote (replacing (region_of m.old slot) n start end piece.now) m.old slot result m.new }
 {
-    let first = region_start(m, slot);
-    let Number::Is(at) = first else {
-        return first;
-    };
-    let done = leaf_bytes::replace(&mut m[at..at + MAX_BYTES], n, start, end, piece);
-    let Number::Is(len) = done else {
-        return done;
-    };
-    match set_leaf(m, slot, len) {
-        Verdict::Refused(q) => Number::Refused(q),
-        Verdict::Accepted => Number::Is(len),
-    }
+    let at = region_start(m, slot)?;
+    let len = leaf_bytes::replace(&mut m[at..at + MAX_BYTES], n, start, end, piece)?;
+    set_leaf(m, slot, len)?;
+    Ok(len)
 }
 
 // The bytes [start, end) of a leaf give way to a piece, where they lie: that they are text, and lie between chars, is not asked.
-pub fn replace_leaf(m: &mut [u8], slot: usize, start: usize, end: usize, piece: &[u8]) -> Number
+pub fn replace_leaf(
+    m: &mut [u8],
+    slot: usize,
+    start: usize,
+    end: usize,
+    piece: &[u8],
+) -> Answer<usize>
     ensures { LeafWrote (leaf_replaced m.old slot start end piece.now) m.old slot result m.new }
 {
-    let size = leaf_of(m, slot);
-    let Number::Is(n) = size else {
-        return size;
-    };
+    let n = leaf_of(m, slot)?;
     replace_at(m, slot, n, start, end, piece)
 }
 
 // Whether that is so of the leaf of n bytes in a slot and a piece.
-fn checked_at(m: &[u8], slot: usize, n: usize, start: usize, end: usize, piece: &[u8]) -> Number
+fn checked_at(
+    m: &[u8],
+    slot: usize,
+    n: usize,
+    start: usize,
+    end: usize,
+    piece: &[u8],
+) -> Answer<usize>
     requires { (outside m.now slot ≡ false) × (n ≤ 512) }
-    ensures { number result ≡ ruled (off_chars (leaf_of (region_of m.now slot) n) start end ∷ no_text (leaf_of (region_of m.now slot) n) piece.now ∷ []) (length (leaf_of (region_of m.now slot) n)) }
+    ensures { outcome result ≡ ruled (off_chars (leaf_of (region_of m.now slot) n) start end ∷ no_text (leaf_of (region_of m.now slot) n) piece.now ∷ []) (length (leaf_of (region_of m.now slot) n)) }
 {
-    let first = region_start(m, slot);
-    let Number::Is(at) = first else {
-        return first;
-    };
+    let at = region_start(m, slot)?;
     node_text::checked(&m[at..at + n], start, end, piece)
 }
 
 // The same edit of text, as the leaf's own: refused where it would leave none.
-pub fn edit_leaf(m: &mut [u8], slot: usize, start: usize, end: usize, piece: &[u8]) -> Number
+pub fn edit_leaf(m: &mut [u8], slot: usize, start: usize, end: usize, piece: &[u8]) -> Answer<usize>
     ensures { LeafWrote (leaf_edited m.old slot start end piece.now) m.old slot result m.new }
 {
-    let size = leaf_of(m, slot);
-    let Number::Is(n) = size else {
-        return size;
-    };
-    let fits = checked_at(m, slot, n, start, end, piece);
-    let Number::Is(_) = fits else {
-        return fits;
-    };
+    let n = leaf_of(m, slot)?;
+    checked_at(m, slot, n, start, end, piece)?;
     replace_at(m, slot, n, start, end, piece)
 }
 
 // Makes a slot a leaf with these bytes.
-fn lay(m: &mut [u8], slot: usize, text: &[u8]) -> Verdict
+fn lay(m: &mut [u8], slot: usize, text: &[u8]) -> Answer<()>
     requires { (outside m.old slot ≡ false) × (length text.now ≤ 512) }
-    ensures { (verdict result ≡ value tt) × (m.new ≡ leaf_put m.old slot text.now) }
+    ensures { (outcome result ≡ value tt) × (m.new ≡ leaf_put m.old slot text.now) }
 {
-    match region_start(m, slot) {
-        Number::Refused(q) => Verdict::Refused(q),
-        Number::Is(at) => {
-            let end = at + MAX_BYTES;
-            match leaf_bytes::replace(&mut m[at..end], 0, 0, 0, text) {
-                Number::Refused(q) => Verdict::Refused(q),
-                Number::Is(n) => set_leaf(m, slot, n),
-            }
-        }
-    }
+    let at = region_start(m, slot)?;
+    let end = at + MAX_BYTES;
+    let n = leaf_bytes::replace(&mut m[at..end], 0, 0, 0, text)?;
+    set_leaf(m, slot, n)
 }
 
 // Makes a slot the leaf of its first l bytes, and another slot a leaf with these bytes.
-fn make_two(m: &mut [u8], slot: usize, l: usize, right: usize, text: &[u8]) -> Sides
+fn make_two(
+    m: &mut [u8],
+    slot: usize,
+    l: usize,
+    right: usize,
+    text: &[u8],
+) -> Answer<(usize, usize)>
     requires { (outside m.old slot ≡ false) × (outside m.old right ≡ false) × (l ≤ 512) × (length text.now ≤ 512) }
-    ensures { (sides result ≡ value (l, length text.now)) × (m.new ≡ leaf_put (head_put m.old slot 1 l 0) right text.now) }
+    ensures { (outcome result ≡ value (l, length text.now)) × (m.new ≡ leaf_put (head_put m.old slot 1 l 0) right text.now) }
 {
-    match set_leaf(m, slot, l) {
-        Verdict::Refused(q) => Sides::Refused(q),
-        Verdict::Accepted => match lay(m, right, text) {
-            Verdict::Refused(q) => Sides::Refused(q),
-            Verdict::Accepted => Sides::Are(l, text.len()),
-        },
-    }
+    set_leaf(m, slot, l)?;
+    lay(m, right, text)?;
+    Ok((l, text.len()))
 }
 
 // Puts a piece into the leaf of n bytes in a slot and parts the whole; the right side becomes the leaf in another slot, by way of the
@@ -153,25 +141,25 @@ fn halve_by(
     piece: &[u8],
     right: usize,
     side: &mut [u8],
-) -> Sides
+) -> Answer<(usize, usize)>
     requires { (outside m.old slot ≡ false) × (outside m.old right ≡ false) × (length side.old ≡ 512) }
     ensures { LeavesWrote (inserted_split (region_of m.old slot) n at piece.now (region_of m.old right)) m.old slot right result m.new }
 {
-    match region_start(m, slot) {
-        Number::Refused(q) => Sides::Refused(q),
-        Number::Is(start) => {
-            let end = start + MAX_BYTES;
-            let done = leaf_split::insert_str_split(&mut m[start..end], n, at, piece, side);
-            let Sides::Are(l, r) = done else {
-                return done;
-            };
-            make_two(m, slot, l, right, &side[..r])
-        }
-    }
+    let start = region_start(m, slot)?;
+    let end = start + MAX_BYTES;
+    let (l, r) = leaf_split::insert_str_split(&mut m[start..end], n, at, piece, side)?;
+    make_two(m, slot, l, right, &side[..r])
 }
 
 // The same, with bytes of its own on the way.
-fn halve_at(m: &mut [u8], slot: usize, n: usize, at: usize, piece: &[u8], right: usize) -> Sides
+fn halve_at(
+    m: &mut [u8],
+    slot: usize,
+    n: usize,
+    at: usize,
+    piece: &[u8],
+    right: usize,
+) -> Answer<(usize, usize)>
     requires { (outside m.old slot ≡ false) × (outside m.old right ≡ false) }
     ensures { LeavesWrote (inserted_split (region_of m.old slot) n at piece.now (region_of m.old right)) m.old slot right result m.new }
 {
@@ -181,17 +169,19 @@ fn halve_at(m: &mut [u8], slot: usize, n: usize, at: usize, piece: &[u8], right:
 
 // Puts a piece into a leaf and parts the whole near its half: the left side stays, the right side becomes the leaf in another slot,
 // whatever that held.
-pub fn halve_leaf(m: &mut [u8], slot: usize, at: usize, piece: &[u8], right: usize) -> Sides
+pub fn halve_leaf(
+    m: &mut [u8],
+    slot: usize,
+    at: usize,
+    piece: &[u8],
+    right: usize,
+) -> Answer<(usize, usize)>
     ensures { LeavesWrote (leaf_halved m.old slot at piece.now right) m.old slot right result m.new }
 {
     if slot == right {
-        return Sides::Refused(Refusal::Memory);
+        return Err(Refusal::Memory);
     }
-    match region_start(m, right) {
-        Number::Refused(q) => Sides::Refused(q),
-        Number::Is(_) => match leaf_of(m, slot) {
-            Number::Refused(q) => Sides::Refused(q),
-            Number::Is(n) => halve_at(m, slot, n, at, piece, right),
-        },
-    }
+    region_start(m, right)?;
+    let n = leaf_of(m, slot)?;
+    halve_at(m, slot, n, at, piece, right)
 }

@@ -1,4 +1,5 @@
 -- What the functions of this crate come to, from what those below answered.
+use Rattle.std.specs.Prelude.{Ok, Err}
 use mathlib.Core.Path.{◌≡◌, sym, ap, subst, ◌∙◌}
 use mathlib.Core.Bool.{true, false}
 use mathlib.Core.List.{List, []}
@@ -7,7 +8,7 @@ use native.Mathlib.Omega.{arith}
 use lib.ListN.{length, take, drop, length-drop}
 use lib.Seq.{length-take-le}
 use Rattle.plain.specs.Outcome.{Outcome, Outcome.value, Outcome.refused, part, mapped}
-use Rattle.answer.specs.Answers.{refusal_number}
+use Rattle.answer.specs.Answers.{refusal_number, Answer, outcome}
 use Rattle.answer.specs.declared.Refusal.{Refusal}
 use Rattle.text_info.specs.declared.TextSum.{TextSum}
 use Rattle.pool.specs.Slot.{slot_start, len_of, region_of}
@@ -16,9 +17,7 @@ use Rattle.child_search.specs.declared.Measure.{Measure}
 use Rattle.child_search.specs.declared.Measure.TheVariants.{Bytes, Chars}
 use Rattle.nodes.specs.Node.{is_leaf, text_of}
 use Rattle.nodes.proofs.Laid.{text-lent}
-use Rattle.tree_search.specs.declared.Spot.{Spot}
-use Rattle.tree_search.specs.declared.Spot.TheVariants as Spot·case
-use Rattle.tree_search.specs.Search.{spot, leaf_at, Bounded}
+use Rattle.tree_search.specs.Search.{leaf_at, Bounded}
 use Rattle.note_head.specs.Head.{root_of, height_of}
 use Rattle.leaf_parts.specs.Parts.{leaf_text, byte_in, spot_of, chars_behind, bytes_behind, start_of, from_char, from_byte, byte_of}
 
@@ -46,55 +45,55 @@ module _ (m : List ℕ) (s : ℕ) where
 
 -- ── a search ──
 
-pub spot_is : (m : List ℕ) (by : Measure) (at h s : ℕ) (k : Kid) (r : Spot) → k ≡ root_of m → h ≡ height_of m → s ≡ k.slot → spot r ≡ leaf_at m h s by at → spot r ≡ spot_of m by at
+pub spot_is : (m : List ℕ) (by : Measure) (at h s : ℕ) (k : Kid) (r : Answer (ℕ × TextSum)) → k ≡ root_of m → h ≡ height_of m → s ≡ k.slot → outcome r ≡ leaf_at m h s by at → outcome r ≡ spot_of m by at
 spot_is m by at h s k r e f g p = p ∙ ap (λ (j : ℕ). leaf_at m j s by at) f ∙ ap (λ (j : ℕ). leaf_at m (height_of m) j by at) (g ∙ ap (λ (x : Kid). x.slot) e)
 
 module _ (m : List ℕ) (at : ℕ) where
-  module _ (r : Spot) where
-    pub chars-none : (q : Refusal) → spot r ≡ spot_of m Chars at → r ≡ Spot·case.Refused q → ◌≡◌ {A = List ℕ} [] (from_char m at)
+  module _ (r : Answer (ℕ × TextSum)) where
+    pub chars-none : (q : Refusal) → outcome r ≡ spot_of m Chars at → r ≡ Err q → ◌≡◌ {A = List ℕ} [] (from_char m at)
     unfolding from_char
-    chars-none q p e = ap (λ (o : Outcome (ℕ × TextSum)). part (mapped (chars_behind m at) o)) (sym (ap spot e) ∙ p)
+    chars-none q p e = ap (λ (o : Outcome (ℕ × TextSum)). part (mapped (chars_behind m at) o)) (sym (ap outcome e) ∙ p)
 
-    pub bytes-none : (q : Refusal) → spot r ≡ spot_of m Bytes at → r ≡ Spot·case.Refused q → ◌≡◌ {A = List ℕ} [] (from_byte m at)
+    pub bytes-none : (q : Refusal) → outcome r ≡ spot_of m Bytes at → r ≡ Err q → ◌≡◌ {A = List ℕ} [] (from_byte m at)
     unfolding from_byte
-    bytes-none q p e = ap (λ (o : Outcome (ℕ × TextSum)). part (mapped (bytes_behind m at) o)) (sym (ap spot e) ∙ p)
+    bytes-none q p e = ap (λ (o : Outcome (ℕ × TextSum)). part (mapped (bytes_behind m at) o)) (sym (ap outcome e) ∙ p)
 
-    pub byte-none : (q : Refusal) → spot r ≡ spot_of m Chars at → r ≡ Spot·case.Refused q → refused (refusal_number q) ≡ byte_of m at
+    pub byte-none : (q : Refusal) → outcome r ≡ spot_of m Chars at → r ≡ Err q → refused (refusal_number q) ≡ byte_of m at
     unfolding byte_of
-    byte-none q p e = ap (mapped (start_of m at)) (sym (ap spot e) ∙ p)
+    byte-none q p e = ap (mapped (start_of m at)) (sym (ap outcome e) ∙ p)
 
     module _ (leaf : ℕ) (left : TextSum) (t : List ℕ) (i : ℕ) where
-      pub chars-found : spot r ≡ spot_of m Chars at → r ≡ Spot·case.At leaf left → t ≡ leaf_text m leaf → i ≡ at - left.chars
+      pub chars-found : outcome r ≡ spot_of m Chars at → r ≡ Ok (leaf, left) → t ≡ leaf_text m leaf → i ≡ at - left.chars
           → (k : ℕ) → k ≡ byte_in t i → (x : List ℕ) → x ≡ drop k t → x ≡ from_char m at
       unfolding from_char
       chars-found p e f g k l x w =
           w ∙ ap (λ (j : ℕ). drop j t) (l ∙ ap (byte_in t) g) ∙ ap (λ (y : List ℕ). drop (byte_in y (at - left.chars)) y) f
-          ∙ ap (λ (o : Outcome (ℕ × TextSum)). part (mapped (chars_behind m at) o)) (sym (ap spot e) ∙ p)
+          ∙ ap (λ (o : Outcome (ℕ × TextSum)). part (mapped (chars_behind m at) o)) (sym (ap outcome e) ∙ p)
 
-      pub bytes-found : spot r ≡ spot_of m Bytes at → r ≡ Spot·case.At leaf left → t ≡ leaf_text m leaf → i ≡ at - left.bytes
+      pub bytes-found : outcome r ≡ spot_of m Bytes at → r ≡ Ok (leaf, left) → t ≡ leaf_text m leaf → i ≡ at - left.bytes
           → (x : List ℕ) → x ≡ drop i t → x ≡ from_byte m at
       unfolding from_byte
       bytes-found p e f g x w =
           w ∙ ap (λ (j : ℕ). drop j t) g ∙ ap (drop (at - left.bytes)) f
-          ∙ ap (λ (o : Outcome (ℕ × TextSum)). part (mapped (bytes_behind m at) o)) (sym (ap spot e) ∙ p)
+          ∙ ap (λ (o : Outcome (ℕ × TextSum)). part (mapped (bytes_behind m at) o)) (sym (ap outcome e) ∙ p)
 
-      pub byte-found : spot r ≡ spot_of m Chars at → r ≡ Spot·case.At leaf left → t ≡ leaf_text m leaf → i ≡ at - left.chars
+      pub byte-found : outcome r ≡ spot_of m Chars at → r ≡ Ok (leaf, left) → t ≡ leaf_text m leaf → i ≡ at - left.chars
           → (k : ℕ) → k ≡ byte_in t i → value (left.bytes + k) ≡ byte_of m at
       unfolding byte_of
       byte-found p e f g k l =
           ap (λ (j : ℕ). value (left.bytes + j)) (l ∙ ap (byte_in t) g ∙ ap (λ (y : List ℕ). byte_in y (at - left.chars)) f)
-          ∙ ap (mapped (start_of m at)) (sym (ap spot e) ∙ p)
+          ∙ ap (mapped (start_of m at)) (sym (ap outcome e) ∙ p)
 
 -- the counts on the left of a leaf, in a tree of at most 255 levels
-pub left-small : (r : Spot) (leaf : ℕ) (left : TextSum) → Bounded 255 r → r ≡ Spot·case.At leaf left → left.bytes ≤ 4080 * 4294967295
+pub left-small : (r : Answer (ℕ × TextSum)) (leaf : ℕ) (left : TextSum) → Bounded 255 r → r ≡ Ok (leaf, left) → left.bytes ≤ 4080 * 4294967295
 left-small r leaf left b e = let w = subst (Bounded 255) e b in omega (arith, w.b)
 
-pub bounded-most : (h : ℕ) (r : Spot) → h < 256 → Bounded h r → Bounded 255 r
-bounded-most h (Spot·case.At leaf left) k w =
+pub bounded-most : (h : ℕ) (r : Answer (ℕ × TextSum)) → h < 256 → Bounded h r → Bounded 255 r
+bounded-most h (Ok (leaf, left)) k w =
     let l = 16 * h in
     let most : l ≤ 16 * 255 = omega arith in
     record { b = up l left.bytes most w.b; c = up l left.chars most w.c; u = up l left.utf16_surrogates most w.u; l = up l left.line_breaks most w.l }
   where
     up : (l x : ℕ) → l ≤ 16 * 255 → x ≤ l * 4294967295 → x ≤ 16 * 255 * 4294967295
     up l x i j = omega arith
-bounded-most h (Spot·case.Refused q) k w = tt
+bounded-most h (Err q) k w = tt

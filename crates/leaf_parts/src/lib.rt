@@ -3,16 +3,17 @@
 #![tactic(auto)]
 
 ghost use Rattle.std.specs.Prelude.{◌≡◌, ◌-◌, ◌≤◌, ◌<◌, length, drop};
-ghost use Rattle.answer.specs.Answers.{number};
+ghost use Rattle.answer.specs.Answers.{outcome};
 ghost use Rattle.note_head.specs.Part.{PartOf};
-ghost use Rattle.tree_search.specs.Search.{spot, Bounded};
+ghost use Rattle.tree_search.specs.Search.{Bounded};
 ghost use Rattle.leaf_parts.specs.Parts.{leaf_text, byte_in, spot_of, from_char, from_byte, byte_of};
 
-use answer::Number;
+use answer::Answer;
 use child_search::Measure;
 use note_head::{height, root};
 use pool::{Head, head_of, region_start};
-use tree_search::{Spot, leaf_at};
+use text_info::TextSum;
+use tree_search::leaf_at;
 
 fn wide(x: u32) -> usize
     ensures { (result ≡ x) × (result < 4294967296) }
@@ -24,10 +25,13 @@ fn wide(x: u32) -> usize
 pub fn text_at(m: &[u8], slot: usize) -> &[u8]
     ensures { (result.now ≡ leaf_text m.now slot) × (length result.now ≤ 512) × PartOf result m.entry }
 {
-    let Head::Leaf(n) = head_of(m, slot) else {
+    let Ok(head) = head_of(m, slot) else {
         return &m[..0];
     };
-    let Number::Is(at) = region_start(m, slot) else {
+    let Head::Leaf(n) = head else {
+        return &m[..0];
+    };
+    let Ok(at) = region_start(m, slot) else {
         return &m[..0];
     };
     &m[at..at + n]
@@ -61,8 +65,8 @@ pub fn byte_in(text: &[u8], i: usize) -> usize
 }
 
 // The leaf that an index of the note's text lies in.
-pub fn spot_of(m: &[u8], by: Measure, at: usize) -> Spot
-    ensures { (spot result ≡ spot_of m.now by at) × Bounded 255 result }
+pub fn spot_of(m: &[u8], by: Measure, at: usize) -> Answer<(usize, TextSum)>
+    ensures { (outcome result ≡ spot_of m.now by at) × Bounded 255 result }
 {
     let kid = root(m);
     leaf_at(m, height(m), wide(kid.slot), by, at)
@@ -72,7 +76,7 @@ pub fn spot_of(m: &[u8], by: Measure, at: usize) -> Spot
 pub fn from_char(m: &[u8], at: usize) -> &[u8]
     ensures { (result.now ≡ from_char m.now at) × PartOf result m.entry }
 {
-    let Spot::At(leaf, left) = spot_of(m, Measure::Chars, at) else {
+    let Ok((leaf, left)) = spot_of(m, Measure::Chars, at) else {
         return &m[..0];
     };
     let text = text_at(m, leaf);
@@ -84,22 +88,18 @@ pub fn from_char(m: &[u8], at: usize) -> &[u8]
 pub fn from_byte(m: &[u8], at: usize) -> &[u8]
     ensures { result.now ≡ from_byte m.now at }
 {
-    let Spot::At(leaf, left) = spot_of(m, Measure::Bytes, at) else {
+    let Ok((leaf, left)) = spot_of(m, Measure::Bytes, at) else {
         return &m[..0];
     };
     behind(text_at(m, leaf), above(at, left.bytes as usize))
 }
 
 // The byte at which a char of the note's text begins.
-pub fn byte_of(m: &[u8], at: usize) -> Number
-    ensures { number result ≡ byte_of m.now at }
+pub fn byte_of(m: &[u8], at: usize) -> Answer<usize>
+    ensures { outcome result ≡ byte_of m.now at }
 {
-    match spot_of(m, Measure::Chars, at) {
-        Spot::Refused(r) => Number::Refused(r),
-        Spot::At(leaf, left) => {
-            let text = text_at(m, leaf);
-            let b = left.bytes as usize + byte_in(text, above(at, left.chars as usize));
-            Number::Is(b)
-        }
-    }
+    let (leaf, left) = spot_of(m, Measure::Chars, at)?;
+    let text = text_at(m, leaf);
+    let b = left.bytes as usize + byte_in(text, above(at, left.chars as usize));
+    Ok(b)
 }

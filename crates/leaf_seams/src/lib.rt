@@ -7,29 +7,32 @@ mod shift;
 ghost use Rattle.leaf_bytes.specs.Leaf.{Leaves};
 ghost use Rattle.leaf_bytes.specs.Raw.{mending};
 
-use answer::{Number, Refusal, Sides};
+use answer::{Answer, Refusal};
 use leaf_bytes::{least, room};
 use seam::seam_split;
 use shift::move_seam;
 
 // Each leaf stays in its region, and bytes between the seam and where it is moved to change sides.
-pub fn mend(left: &mut [u8], len: usize, right: &mut [u8], right_len: usize) -> Sides
+pub fn mend(
+    left: &mut [u8],
+    len: usize,
+    right: &mut [u8],
+    right_len: usize,
+) -> Answer<(usize, usize)>
     ensures { Leaves (mending left.old len right.old right_len) left.old right.old result left.new right.new }
 {
     if least(len, left.len()) == 0 {
-        return Sides::Refused(Refusal::Side);
+        return Err(Refusal::Side);
     }
     if least(right_len, right.len()) == 0 {
-        return Sides::Refused(Refusal::Side);
+        return Err(Refusal::Side);
     }
     if room(left) < len {
-        return Sides::Refused(Refusal::Size);
+        return Err(Refusal::Size);
     }
     if room(right) < right_len {
-        return Sides::Refused(Refusal::Size);
+        return Err(Refusal::Size);
     }
-    match seam_split(&left[..len], &right[..right_len]) {
-        Number::Refused(r) => Sides::Refused(r),
-        Number::Is(split) => move_seam(left, len, right, right_len, split),
-    }
+    let split = seam_split(&left[..len], &right[..right_len])?;
+    move_seam(left, len, right, right_len, split)
 }

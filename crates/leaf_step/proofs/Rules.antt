@@ -1,4 +1,5 @@
 -- From what the calls below answered to what a step comes to.
+use Rattle.std.specs.Prelude.{Ok, Err}
 use mathlib.Core.Path.{◌≡◌, refl, sym, ap, subst, ◌∙◌}
 use mathlib.Core.Bool.{Bool, true, false, ◌&&◌, cond}
 use mathlib.Core.List.{List}
@@ -11,19 +12,11 @@ use Rattle.plain_note.specs.Note.{head_size}
 use Rattle.plain.specs.Outcome.{Outcome, Outcome.value, Outcome.refused, past, mapped}
 use Rattle.plain.proofs.Logic.{or-none, and_none}
 use Rattle.plain.proofs.Outcome.{clash}
-use Rattle.answer.specs.Answers.{refusal_number}
+use Rattle.answer.specs.Answers.{refusal_number, Answer, outcome}
 use Rattle.answer.specs.declared.Refusal.{Refusal}
-use Rattle.answer.specs.declared.Number.{Number}
-use Rattle.answer.specs.declared.Number.TheVariants as Number·case
-use Rattle.answer.specs.declared.Sides.{Sides}
-use Rattle.answer.specs.declared.Sides.TheVariants as Sides·case
-use Rattle.answer.specs.declared.Verdict.{Verdict}
-use Rattle.answer.specs.declared.Verdict.TheVariants as Verdict·case
 use Rattle.leaf_bytes.proofs.Opened.{never}
-use Rattle.text_info.specs.Info.{info, raw_info, raw_leaf_info}
+use Rattle.text_info.specs.Info.{raw_info, raw_leaf_info}
 use Rattle.text_info.specs.declared.TextInfo.{TextInfo}
-use Rattle.text_info.specs.declared.Info.{Info}
-use Rattle.text_info.specs.declared.Info.TheVariants as Info·case
 use Rattle.text_info.proofs.Counts.{raw-counted}
 use Rattle.pool.specs.declared.Head.{Head}
 use Rattle.pool.specs.declared.Head.TheVariants as Head·case
@@ -45,7 +38,6 @@ use Rattle.free_slots.specs.Slots.{no_free}
 use Rattle.free_slots.proofs.Rules.{next_small, head-free}
 use Rattle.edit_steps.specs.Made.{Made, Made.same, Made.split, Made.small, edit, sized, Stepped}
 use Rattle.edit_steps.specs.declared.Edit.{Edit}
-use Rattle.edit_steps.specs.declared.Edit.TheVariants as Edit·case
 use Rattle.leaf_step.specs.Steps.{one_leaf, two_leaves, leaf_fit, leaf_halves, leaf_split, overfull, leaf_stepped}
 use Rattle.leaf_step.proofs.Leaves.{left-text, right-text}
 
@@ -60,13 +52,13 @@ module _ (m : List ℕ) (s : ℕ) (leaf : is_leaf m s ≡ true) where
   leaf-counted = ap raw_leaf_info text-is ∙ sym (raw-counted (text_of m s) (omega (arith, text-length m s leaf, (leaf-says m s leaf).2)))
 
 -- counts that were promised
-module _ (r : Info) (t : TextInfo) (promise : info r ≡ value t) where
-  pub info-never : {X : Type 0} (q : Refusal) → r ≡ Info·case.Refused q → X
-  info-never q e = clash (refusal_number q) t (sym (ap info e) ∙ promise)
+module _ (r : Answer TextInfo) (t : TextInfo) (promise : outcome r ≡ value t) where
+  pub info-never : {X : Type 0} (q : Refusal) → r ≡ Err q → X
+  info-never q e = clash (refusal_number q) t (sym (ap outcome e) ∙ promise)
 
-  pub info-value : (i : TextInfo) → r ≡ Info·case.Is i → i ≡ t
+  pub info-value : (i : TextInfo) → r ≡ Ok i → i ≡ t
   info-value i e =
-      let z : ◌≡◌ {A = Outcome TextInfo} (value i) (value t) = sym (ap info e) ∙ promise in
+      let z : ◌≡◌ {A = Outcome TextInfo} (value i) (value t) = sym (ap outcome e) ∙ promise in
       cc
 
 -- ── a leaf's size ──
@@ -84,11 +76,11 @@ told-two i a u j b e f = ap (λ (k : TextInfo). value (split k u j)) e ∙ ap (�
 -- ── a step ──
 
 -- another name for what it comes to
-pub stepped-as : (o p : Outcome (Made × List ℕ)) (before : List ℕ) (r : Edit) (after : List ℕ) → o ≡ p → Stepped p before r after → Stepped o before r after
+pub stepped-as : (o p : Outcome (Made × List ℕ)) (before : List ℕ) (r : Answer Edit) (after : List ℕ) → o ≡ p → Stepped p before r after → Stepped o before r after
 stepped-as o p before r after e s = subst (λ (q : Outcome (Made × List ℕ)). Stepped q before r after) (sym e) s
 
 -- refused by 2
-pub stepped-not : (o : Outcome (Made × List ℕ)) (before : List ℕ) → o ≡ refused 2 → (q : Refusal) → refusal_number q ≡ 2 → Stepped o before (Edit·case.Refused q) before
+pub stepped-not : (o : Outcome (Made × List ℕ)) (before : List ℕ) → o ≡ refused 2 → (q : Refusal) → refusal_number q ≡ 2 → Stepped o before (Err q) before
 stepped-not o before e q n = stepped-as o (refused 2) before _ before e (record { answered = ap (λ (k : ℕ). refused k) n; memory = refl })
 
 -- ── an edit that fits ──
@@ -111,23 +103,23 @@ module _ (m : List ℕ) (s i e : ℕ) (piece : List ℕ) where
       go true z = ((leaf-says m s z).0, replacing-small (region_of m s) (len_of m s) i e piece t (sym (replace-is m s i e piece (len_of m s) z refl) ∙ h))
       go false z = absurd (never 2 t (sym (replace-none m s i e piece z) ∙ h))
 
-  module _ (r : Number) (after : List ℕ) (w : LeafWrote (leaf_replaced m s i e piece) m s r after) where
-    pub fit_refused : (q : Refusal) → r ≡ Number·case.Refused q → Stepped (leaf_fit m s i e piece) m (Edit·case.Refused q) after
+  module _ (r : Answer ℕ) (after : List ℕ) (w : LeafWrote (leaf_replaced m s i e piece) m s r after) where
+    pub fit_refused : (q : Refusal) → r ≡ Err q → Stepped (leaf_fit m s i e piece) m (Err q) after
     unfolding leaf_fit
-    fit_refused q z = go (leaf_replaced m s i e piece) (subst (λ (x : Number). LeafWrote (leaf_replaced m s i e piece) m s x after) z w)
+    fit_refused q z = go (leaf_replaced m s i e piece) (subst (λ (x : Answer ℕ). LeafWrote (leaf_replaced m s i e piece) m s x after) z w)
       where
-        go : (o : Outcome (List ℕ)) → LeafWrote o m s (Number·case.Refused q) after → Stepped (mapped (one_leaf m s) o) m (Edit·case.Refused q) after
+        go : (o : Outcome (List ℕ)) → LeafWrote o m s (Err q) after → Stepped (mapped (one_leaf m s) o) m (Err q) after
         go (value t) w = absurd (never _ _ w.answered)
         go (refused n) w =
             let p = w.answered in
             let z : refusal_number q ≡ n = cc in
             record { answered = ap (λ (k : ℕ). refused k) z; memory = w.memory }
 
-    module _ (n : ℕ) (z : r ≡ Number·case.Is n) where
+    module _ (n : ℕ) (z : r ≡ Ok n) where
       fit-accepted : Replaced m s (leaf_replaced m s i e piece) n after
-      fit-accepted = go (leaf_replaced m s i e piece) refl (subst (λ (x : Number). LeafWrote (leaf_replaced m s i e piece) m s x after) z w)
+      fit-accepted = go (leaf_replaced m s i e piece) refl (subst (λ (x : Answer ℕ). LeafWrote (leaf_replaced m s i e piece) m s x after) z w)
         where
-          go : (o : Outcome (List ℕ)) → leaf_replaced m s i e piece ≡ o → LeafWrote o m s (Number·case.Is n) after → Replaced m s o n after
+          go : (o : Outcome (List ℕ)) → leaf_replaced m s i e piece ≡ o → LeafWrote o m s (Ok n) after → Replaced m s o n after
           go (refused k) y w = absurd (never k n (sym w.answered))
           go (value t) y w =
               let f = was-leaf t y in
@@ -144,7 +136,7 @@ module _ (m : List ℕ) (s i e : ℕ) (piece : List ℕ) where
       pub fit-ready : is_leaf after s ≡ true
       fit-ready = fit-accepted.leaf
 
-      pub fit-done : (a : Edit) → edit a ≡ value (sized 128 n (raw_info (text_of after s))) → Stepped (leaf_fit m s i e piece) m a after
+      pub fit-done : (a : Answer Edit) → edit a ≡ value (sized 128 n (raw_info (text_of after s))) → Stepped (leaf_fit m s i e piece) m a after
       unfolding leaf_fit
       fit-done a p =
           let x = fit-accepted in
@@ -157,11 +149,11 @@ module _ (m : List ℕ) (s i e : ℕ) (piece : List ℕ) where
 
 -- ── the chain of free slots, behind a leaf ──
 
-module _ (m : List ℕ) (s v : ℕ) (leaf : is_leaf m s ≡ true) (r : Verdict) (after : List ℕ) (w : Wrote (number_set m 32 v) m r after) where
+module _ (m : List ℕ) (s v : ℕ) (leaf : is_leaf m s ≡ true) (r : Answer (Unit {0})) (after : List ℕ) (w : Wrote (number_set m 32 v) m r after) where
   long : head_size ≤ length m
   long = omega (arith, (leaf-says m s leaf).0)
 
-  pub chain-never : {X : Type 0} (q : Refusal) → r ≡ Verdict·case.Refused q → X
+  pub chain-never : {X : Type 0} (q : Refusal) → r ≡ Err q → X
   chain-never q e = wrote-never _ m r after w _ (number-it m long 32 v) q e
 
   pub chain-there : after ≡ number_put m 32 v
@@ -169,21 +161,21 @@ module _ (m : List ℕ) (s v : ℕ) (leaf : is_leaf m s ≡ true) (r : Verdict) 
 
 -- ── a leaf parted ──
 
-module _ (m : List ℕ) (s i : ℕ) (piece : List ℕ) (u v : ℕ) (r : Sides) (mid : List ℕ) (w : LeavesWrote (leaf_halved m s i piece u) m s u r mid) where
-  pub halve-refused : (q : Refusal) → r ≡ Sides·case.Refused q → Stepped (leaf_halves m s i piece u v) m (Edit·case.Refused q) mid
+module _ (m : List ℕ) (s i : ℕ) (piece : List ℕ) (u v : ℕ) (r : Answer (ℕ × ℕ)) (mid : List ℕ) (w : LeavesWrote (leaf_halved m s i piece u) m s u r mid) where
+  pub halve-refused : (q : Refusal) → r ≡ Err q → Stepped (leaf_halves m s i piece u v) m (Err q) mid
   unfolding leaf_halves
-  halve-refused q z = go (leaf_halved m s i piece u) (subst (λ (x : Sides). LeavesWrote (leaf_halved m s i piece u) m s u x mid) z w)
+  halve-refused q z = go (leaf_halved m s i piece u) (subst (λ (x : Answer (ℕ × ℕ)). LeavesWrote (leaf_halved m s i piece u) m s u x mid) z w)
     where
-      go : (o : Outcome (List ℕ × List ℕ)) → LeavesWrote o m s u (Sides·case.Refused q) mid → Stepped (mapped (two_leaves m s u v) o) m (Edit·case.Refused q) mid
+      go : (o : Outcome (List ℕ × List ℕ)) → LeavesWrote o m s u (Err q) mid → Stepped (mapped (two_leaves m s u v) o) m (Err q) mid
       go (value t) w = absurd (never _ _ w.answered)
       go (refused n) w =
           let p = w.answered in
           let z : refusal_number q ≡ n = cc in
           record { answered = ap (λ (k : ℕ). refused k) z; memory = w.memory }
 
-  module _ (k l : ℕ) (z : r ≡ Sides·case.Are k l) where
-    halved : LeavesWrote (leaf_halved m s i piece u) m s u (Sides·case.Are k l) mid
-    halved = subst (λ (x : Sides). LeavesWrote (leaf_halved m s i piece u) m s u x mid) z w
+  module _ (k l : ℕ) (z : r ≡ Ok (k, l)) where
+    halved : LeavesWrote (leaf_halved m s i piece u) m s u (Ok (k, l)) mid
+    halved = subst (λ (x : Answer (ℕ × ℕ)). LeavesWrote (leaf_halved m s i piece u) m s u x mid) z w
 
     parts : HalvedLeaf m s i piece u k l mid
     parts = halve-accepted m s i piece u k l mid halved
@@ -194,11 +186,11 @@ module _ (m : List ℕ) (s i : ℕ) (piece : List ℕ) (u v : ℕ) (r : Sides) (
     pub right-ready : is_leaf mid u ≡ true
     right-ready = parts.other-leaf
 
-    pub halve-done : (a : Edit) (after : List ℕ) → edit a ≡ value (split (raw_info (text_of mid s)) u (raw_info (text_of mid u))) → after ≡ number_put mid 32 v → Stepped (leaf_halves m s i piece u v) m a after
+    pub halve-done : (a : Answer Edit) (after : List ℕ) → edit a ≡ value (split (raw_info (text_of mid s)) u (raw_info (text_of mid u))) → after ≡ number_put mid 32 v → Stepped (leaf_halves m s i piece u v) m a after
     unfolding leaf_halves
     halve-done a after f g = go (leaf_halved m s i piece u) halved
       where
-        go : (o : Outcome (List ℕ × List ℕ)) → LeavesWrote o m s u (Sides·case.Are k l) mid → Stepped (mapped (two_leaves m s u v) o) m a after
+        go : (o : Outcome (List ℕ × List ℕ)) → LeavesWrote o m s u (Ok (k, l)) mid → Stepped (mapped (two_leaves m s u v) o) m a after
         go (refused q) w = absurd (never q (k, l) (sym w.answered))
         go (value p) w =
             let y = w.answered in
@@ -216,12 +208,12 @@ module _ (m : List ℕ) (s i : ℕ) (piece : List ℕ) (u v : ℕ) (r : Sides) (
 
 -- ── the free slot ──
 
-module _ (m : List ℕ) (s i : ℕ) (piece : List ℕ) (u : ℕ) (at : u ≡ free_of m) (h : Head) (promise : held h ≡ head_of m u) where
-  pub split-not : no_free m u ≡ true → (q : Refusal) → refusal_number q ≡ 2 → Stepped (leaf_split m s i piece) m (Edit·case.Refused q) m
+module _ (m : List ℕ) (s i : ℕ) (piece : List ℕ) (u : ℕ) (at : u ≡ free_of m) (h : Answer Head) (promise : held h ≡ head_of m u) where
+  pub split-not : no_free m u ≡ true → (q : Refusal) → refusal_number q ≡ 2 → Stepped (leaf_split m s i piece) m (Err q) m
   unfolding leaf_split
   split-not t q e = stepped-not _ m (ap (λ (t : Bool). cond t (refused 2) (leaf_halves m s i piece (free_of m) (next_of m (free_of m)))) (ap (no_free m) (sym at) ∙ t)) q e
 
-  module _ (next : ℕ) (e : h ≡ Head·case.Free next) where
+  module _ (next : ℕ) (e : h ≡ Ok (Head·case.Free next)) where
     pub next_fits : ((x : ℕ) → get_or m x 0 < 256) → next < 4294967296
     next_fits f = omega (arith, (head-free m u h promise next e).2, next_small m f u)
 
@@ -230,7 +222,7 @@ module _ (m : List ℕ) (s i : ℕ) (piece : List ℕ) (u : ℕ) (at : u ≡ fre
         let f = head-free m u h promise next e in
         or-none (outside m u) (past (kind_of m u) 0) (le-ltb (length m) (slot_start u + 640) f.0) (le-ltb 0 (kind_of m u) (omega (arith, f.1)))
 
-    pub split-on : (r : Edit) (after : List ℕ) → Stepped (leaf_halves m s i piece u next) m r after → Stepped (leaf_split m s i piece) m r after
+    pub split-on : (r : Answer Edit) (after : List ℕ) → Stepped (leaf_halves m s i piece u next) m r after → Stepped (leaf_split m s i piece) m r after
     unfolding leaf_split
     split-on r after t =
         stepped-as _ _ m r after
@@ -264,23 +256,23 @@ module _ (m : List ℕ) (s i e : ℕ) (piece : List ℕ) where
   pub over-not : length piece + len_of m s ≤ 512 → overfull m s i e piece ≡ false
   over-not h = ap (λ (t : Bool). eqb i e && t) (le-ltb 512 (length piece + len_of m s) h) ∙ and_none (eqb i e)
 
-  pub no-leaf : is_leaf m s ≡ false → (q : Refusal) → refusal_number q ≡ 2 → Stepped (leaf_stepped m s i e piece) m (Edit·case.Refused q) m
+  pub no-leaf : is_leaf m s ≡ false → (q : Refusal) → refusal_number q ≡ 2 → Stepped (leaf_stepped m s i e piece) m (Err q) m
   no-leaf l q n = stepped-not _ m (step-none l) q n
 
-  module _ (h : Head) (promise : held h ≡ head_of m s) where
-    module _ (n : ℕ) (z : h ≡ Head·case.Leaf n) where
+  module _ (h : Answer Head) (promise : held h ≡ head_of m s) where
+    module _ (n : ℕ) (z : h ≡ Ok (Head·case.Leaf n)) where
       pub leaf-small : n ≤ 512
       leaf-small = (head-leaf m s h promise n z).2
 
-      pub step-split : i ≡ e → 512 - n < length piece → (r : Edit) (after : List ℕ) → Stepped (leaf_split m s i piece) m r after → Stepped (leaf_stepped m s i e piece) m r after
+      pub step-split : i ≡ e → 512 - n < length piece → (r : Answer Edit) (after : List ℕ) → Stepped (leaf_split m s i piece) m r after → Stepped (leaf_stepped m s i e piece) m r after
       step-split q l r after t =
           let f = head-leaf m s h promise n z in
           stepped-as _ _ m r after (step-over f.0 (over-is q (omega (arith, f.1, f.2)))) t
 
-      pub step-apart : (i ≡ e → ⊥) → (r : Edit) (after : List ℕ) → Stepped (leaf_fit m s i e piece) m r after → Stepped (leaf_stepped m s i e piece) m r after
+      pub step-apart : (i ≡ e → ⊥) → (r : Answer Edit) (after : List ℕ) → Stepped (leaf_fit m s i e piece) m r after → Stepped (leaf_stepped m s i e piece) m r after
       step-apart q r after t = stepped-as _ _ m r after (step_fits (head-leaf m s h promise n z).0 (over-apart q)) t
 
-      pub step-fit : length piece ≤ 512 - n → (r : Edit) (after : List ℕ) → Stepped (leaf_fit m s i e piece) m r after → Stepped (leaf_stepped m s i e piece) m r after
+      pub step-fit : length piece ≤ 512 - n → (r : Answer Edit) (after : List ℕ) → Stepped (leaf_fit m s i e piece) m r after → Stepped (leaf_stepped m s i e piece) m r after
       step-fit l r after t =
           let f = head-leaf m s h promise n z in
           stepped-as _ _ m r after (step_fits f.0 (over-not (omega (arith, f.1, f.2)))) t

@@ -4,7 +4,8 @@ ghost use Rattle.plain.specs.Count.{breaks};
 ghost use Rattle.utf8.specs.Bmp.{highest};
 ghost use Rattle.lines_crlf.specs.Surveyed.{Tops, Higher};
 
-use crate::{ended, ends_last, stop, sum_of};
+use crate::{ended, ends_last};
+use str_indices::parts::stop;
 
 // The highest byte, 0 where there is none, and how many breaks there are.
 #[derive(Clone, Copy)]
@@ -33,11 +34,9 @@ fn of_part(text: &[u8], a: usize, e: usize) -> Part
 {
     let mut high: u8 = 0;
     let mut n: u8 = 0;
-    let mut i = a;
-    while i < e {
+    for i in a..e {
         high = higher(high, text[i]);
         n += ended(text, i);
-        i += 1;
     }
     Part { high, count: n }
 }
@@ -54,7 +53,7 @@ fn of_parts(text: &[u8], end: usize) -> Survey
         let e = stop(i, end);
         let p = of_part(text, i, e);
         high = higher(high, p.high);
-        n += sum_of(p.count);
+        n += usize::from(p.count);
         i = e;
     }
     Survey { high, count: n }
@@ -72,16 +71,13 @@ fn of_rest(text: &[u8], base: usize, s: u8) -> Part
     requires { (base + 32 < length text.now) × (s ≤ 32) }
     ensures { Tops text.now base (base + 32) result.high × (result.count + breaks (drop (base + 32) text.now) ≡ breaks (drop (base + s) text.now)) × (result.count ≤ 32 - s) }
 {
-    let end = base + 32;
     let mut high: u8 = 0;
     let mut n: u8 = 0;
     let mut k: u8 = 0;
-    let mut i = base;
-    while i < end {
+    for i in base..base + 32 {
         high = higher(high, text[i]);
         n += from_on(k, s, ended(text, i));
         k += 1;
-        i += 1;
     }
     Part { high, count: n }
 }
@@ -99,7 +95,7 @@ fn of_most(text: &[u8], last: usize) -> Survey
     let t = of_rest(text, last - 32, (32 - left) as u8);
     Survey {
         high: higher(s.high, t.high),
-        count: s.count + sum_of(t.count),
+        count: s.count + usize::from(t.count),
     }
 }
 

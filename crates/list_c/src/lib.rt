@@ -4,7 +4,6 @@
 ghost use Rattle.list_calls.specs.Asked.{asked_by};
 ghost use Rattle.list_c.specs.Told.{ListTold};
 
-use list_calls::Reply;
 use pool::Kid;
 use text_info::TextInfo;
 
@@ -42,7 +41,7 @@ pub extern "C" fn wol_list(
         info: info,
     };
     match list_calls::ask_by(call, m, slot, other, i, j, kid) {
-        Reply::Are(first, second, third, fourth, fifth) => {
+        Ok((first, second, third, fourth, fifth)) => {
             *a = first as u64;
             *b = second as u64;
             *c = third as u64;
@@ -50,6 +49,6 @@ pub extern "C" fn wol_list(
             *e = fifth as u64;
             0
         }
-        Reply::Refused(q) => answer::number_of(q),
+        Err(q) => u8::from(q),
     }
 }

@@ -1,8 +1,8 @@
 -- What each call of a child list comes to, over lists in slots of the memory: a question is a call, the memory, the list's slot, another
 -- slot, two indices and a child, and an answer is five numbers and the memory afterwards.
-use Rattle.std.specs.Prelude.{◌≡◌, Bool, true, false, ◌||◌, cond, List, [], ◌∷◌, ℕ, ◌-◌, eqb, ltb, get_or}
+use Rattle.std.specs.Prelude.{◌≡◌, Bool, true, false, ◌||◌, cond, List, [], ◌∷◌, ℕ, ◌-◌, eqb, ltb, get_or, Ok, Err}
 use Rattle.plain.specs.Outcome.{Outcome, Outcome.value, Outcome.refused, Rule, ruled, past, kept, mapped}
-use Rattle.answer.specs.Answers.{refusal_number}
+use Rattle.answer.specs.Answers.{Answer, outcome}
 use Rattle.text_info.specs.declared.TextSum.{TextSum}
 use Rattle.pool.specs.declared.Kid.{Kid}
 use Rattle.pool.specs.Calls.{outside}
@@ -16,8 +16,6 @@ use Rattle.nodes.specs.Calls.{loaded, stored}
 use Rattle.child_info.specs.Calls.{updated, accurate}
 use Rattle.merge.specs.Merge.{merging}
 use Rattle.compact.specs.Pack.{compacted}
-use Rattle.list_calls.specs.declared.Reply.{Reply}
-use Rattle.list_calls.specs.declared.Reply.TheVariants as Reply·case
 use Rattle.list_calls.specs.declared.Call.{Call}
 use Rattle.list_calls.specs.declared.Call.TheVariants.{New, Reads, Edits, Takes, Parts, Deeps, DistributeWith}
 use Rattle.list_calls.specs.declared.deeps.Deep.{Deep}
@@ -60,11 +58,6 @@ spots ((i, m), (j, n)) = (i, m, j, n, 0)
 -- a child taken out: its slot and its counts
 abbrev pub entry : Kid → Five
 entry k = (k.slot, k.info.bytes, k.info.chars, k.info.utf16_surrogates, k.info.line_breaks)
-
--- an answer on paper
-abbrev pub reply : Reply → Outcome Five
-reply (Reply·case.Are a b c d e) = value (a, b, c, d, e)
-reply (Reply·case.Refused r) = refused (refusal_number r)
 
 -- ── calls after one another, and on the list in a slot ──
 
@@ -206,6 +199,6 @@ unfoldable pub asked_by : ℕ → List ℕ → ℕ → ℕ → ℕ → ℕ → K
 asked_by n m p q i j k = cond (eqb n 0 || ltb 22 n) (refused 10) (asked (get_or calls (n - 1) New) m p q i j k)
 
 -- A call that answers five numbers, and every byte afterwards.
-pub record Replied (o : Outcome (Five × List ℕ)) (before : List ℕ) (r : Reply) (after : List ℕ) : Type 0 where
-  pub answered : reply r ≡ mapped (λ t. t.0) o
+pub record Replied (o : Outcome (Five × List ℕ)) (before : List ℕ) (r : Answer Five) (after : List ℕ) : Type 0 where
+  pub answered : outcome r ≡ mapped (λ t. t.0) o
   pub memory : after ≡ kept before (mapped (λ t. t.1) o)

@@ -1,8 +1,9 @@
 // The calls that reach into the nodes of a list's children.
 ghost use Rattle.list_calls.specs.Asked.{deep_by, Replied};
 
-use crate::Reply;
+use crate::Five;
 use crate::replies::{of_truth, of_verdict};
+use answer::Answer;
 use child_info::is_info_accurate;
 use child_update::update_child_info;
 use compact::compact_leaves;
@@ -16,7 +17,7 @@ pub(crate) enum Deep {
     IsInfoAccurate,
 }
 
-pub(crate) fn deep_in(m: &mut [u8], slot: usize, what: Deep, i: usize, j: usize) -> Reply
+pub(crate) fn deep_in(m: &mut [u8], slot: usize, what: Deep, i: usize, j: usize) -> Answer<Five>
     ensures { Replied (deep_by what i j m.old slot) m.old result m.new }
 {
     match what {

@@ -14,15 +14,11 @@ use crate::deeps::{Deep, deep_in};
 use crate::reads::{Read, read_in};
 use crate::replies::of_verdict;
 use crate::writes::{Edit, Part, Take, distribute_in, edit_in, new_in, part_in, take_in};
-use answer::Refusal;
+use answer::{Answer, Refusal};
 use pool::Kid;
 
 // Five numbers: those that a call does not name are 0.
-#[derive(Clone, Copy)]
-pub enum Reply {
-    Are(usize, usize, usize, usize, usize),
-    Refused(Refusal),
-}
+pub type Five = (usize, usize, usize, usize, usize);
 
 // What a call is: one that reads a list, makes one of one, takes a child out of one, makes two of one, reaches into the nodes of its
 // children, or one of the two others.
@@ -73,7 +69,15 @@ fn call_of(n: u8) -> Call
     calls[k]
 }
 
-fn ask(call: Call, m: &mut [u8], slot: usize, other: usize, i: usize, j: usize, kid: Kid) -> Reply
+fn ask(
+    call: Call,
+    m: &mut [u8],
+    slot: usize,
+    other: usize,
+    i: usize,
+    j: usize,
+    kid: Kid,
+) -> Answer<Five>
     ensures { Replied (asked call m.old slot other i j kid) m.old result m.new }
 {
     match call {
@@ -96,14 +100,14 @@ pub fn ask_by(
     i: usize,
     j: usize,
     kid: Kid,
-) -> Reply
+) -> Answer<Five>
     ensures { Replied (asked_by call m.old slot other i j kid) m.old result m.new }
 {
     if call == 0 {
-        return Reply::Refused(Refusal::Field);
+        return Err(Refusal::Field);
     }
     if 22 < call {
-        return Reply::Refused(Refusal::Field);
+        return Err(Refusal::Field);
     }
     ask(call_of(call), m, slot, other, i, j, kid)
 }

@@ -1,10 +1,11 @@
 // The calls that read a child list.
+ghost use Rattle.answer.specs.Answers.{outcome};
 ghost use Rattle.std.specs.Prelude.{◌≡◌};
-ghost use Rattle.list_calls.specs.Asked.{reply, read_by, reading};
+ghost use Rattle.list_calls.specs.Asked.{read_by, reading};
 
-use crate::Reply;
+use crate::Five;
 use crate::replies::{of_chars, of_found, of_range, of_sum, of_truth};
-use answer::{Truth, Verdict};
+use answer::Answer;
 use node_children::NodeChildren;
 
 #[derive(Clone, Copy)]
@@ -21,12 +22,12 @@ pub(crate) enum Read {
 }
 
 // What is read of a list.
-fn read_by(list: NodeChildren, what: Read, i: usize, j: usize) -> Reply
-    ensures { reply result ≡ read_by what i j list }
+fn read_by(list: NodeChildren, what: Read, i: usize, j: usize) -> Answer<Five>
+    ensures { outcome result ≡ read_by what i j list }
 {
     match what {
-        Read::Len => Reply::Are(list.len(), 0, 0, 0, 0),
-        Read::IsFull => of_truth(Truth::Is(list.is_full())),
+        Read::Len => Ok((list.len(), 0, 0, 0, 0)),
+        Read::IsFull => of_truth(Ok(list.is_full())),
         Read::CombinedInfo => of_sum(child_search::combined_info(list)),
         Read::SearchByteIdx => of_found(child_search::search_byte_idx(list, i)),
         Read::SearchCharIdx => of_found(child_search::search_char_idx(list, i)),
@@ -38,13 +39,11 @@ fn read_by(list: NodeChildren, what: Read, i: usize, j: usize) -> Reply
 }
 
 // The same of the list in a slot.
-pub(crate) fn read_in(m: &[u8], slot: usize, what: Read, i: usize, j: usize) -> Reply
-    ensures { reply result ≡ reading what i j m.now slot }
+pub(crate) fn read_in(m: &[u8], slot: usize, what: Read, i: usize, j: usize) -> Answer<Five>
+    ensures { outcome result ≡ reading what i j m.now slot }
 {
     let had = nodes::load(m, slot);
     let v = had.verdict;
-    match v {
-        Verdict::Refused(r) => Reply::Refused(r),
-        Verdict::Accepted => read_by(had.list, what, i, j),
-    }
+    v?;
+    read_by(had.list, what, i, j)
 }

@@ -1,15 +1,15 @@
 // The calls that make a list of one, take a child out of one, or make two of one or two, in the slots where they lie.
 ghost use Rattle.std.specs.Prelude.{◌≡◌, []};
 ghost use Rattle.plain.specs.Outcome.{ruled, mapped};
-ghost use Rattle.answer.specs.Answers.{verdict};
+ghost use Rattle.answer.specs.Answers.{outcome};
 ghost use Rattle.pool.specs.Calls.{Wrote};
 ghost use Rattle.node_children.specs.Kids.{list_of, Listing, Taking, Parting};
 ghost use Rattle.nodes.specs.Calls.{stored};
-ghost use Rattle.list_calls.specs.Asked.{reply, entry, edit_by, take_by, part_by, editing, taking, parting, distributing, no_other, placed, both_rules, both_stored, Replied};
+ghost use Rattle.list_calls.specs.Asked.{entry, edit_by, take_by, part_by, editing, taking, parting, distributing, no_other, placed, both_rules, both_stored, Replied};
 
-use crate::Reply;
+use crate::Five;
 use crate::replies::of_verdict;
-use answer::{Number, Refusal, Verdict, number_of};
+use answer::{Answer, Refusal};
 use child_split::{distribute_with, insert_split, push_split};
 use node_children::{Listed, MAX_LEN, NodeChildren, Taken, Two};
 use nodes::{load, store};
@@ -66,57 +66,49 @@ fn part_by(list: NodeChildren, what: Part, i: usize, kid: Kid) -> Two
 }
 
 // Makes a slot an empty list.
-pub(crate) fn new_in(m: &mut [u8], slot: usize) -> Verdict
+pub(crate) fn new_in(m: &mut [u8], slot: usize) -> Answer<()>
     ensures { Wrote (stored m.old slot (list_of [])) m.old result m.new }
 {
     store(m, slot, NodeChildren::new())
 }
 
 // The list in a slot gives way to one made of it.
-pub(crate) fn edit_in(m: &mut [u8], slot: usize, what: Edit, i: usize, kid: Kid) -> Verdict
+pub(crate) fn edit_in(m: &mut [u8], slot: usize, what: Edit, i: usize, kid: Kid) -> Answer<()>
     ensures { Wrote (editing what i kid m.old slot) m.old result m.new }
 {
     let had = load(m, slot);
-    let v = had.verdict;
-    let Verdict::Accepted = v else {
-        return v;
-    };
+    had.verdict?;
     let got = edit_by(had.list, what, i, kid);
-    let w = got.verdict;
-    let Verdict::Accepted = w else {
-        return w;
-    };
+    got.verdict?;
     store(m, slot, got.list)
 }
 
 // The answer of a child taken out, where the list without it is written.
-fn of_kid(kid: Kid, v: Verdict) -> Reply
-    ensures { reply result ≡ mapped (λ _. entry kid) (verdict v) }
+fn of_kid(kid: Kid, v: Answer<()>) -> Answer<Five>
+    ensures { outcome result ≡ mapped (λ _. entry kid) (outcome v) }
 {
-    match v {
-        Verdict::Refused(r) => Reply::Refused(r),
-        Verdict::Accepted => Reply::Are(
-            kid.slot as usize,
-            kid.info.bytes as usize,
-            kid.info.chars as usize,
-            kid.info.utf16_surrogates as usize,
-            kid.info.line_breaks as usize,
-        ),
-    }
+    v?;
+    Ok((
+        kid.slot as usize,
+        kid.info.bytes as usize,
+        kid.info.chars as usize,
+        kid.info.utf16_surrogates as usize,
+        kid.info.line_breaks as usize,
+    ))
 }
 
 // A child out of the list in a slot.
-pub(crate) fn take_in(m: &mut [u8], slot: usize, what: Take, i: usize) -> Reply
+pub(crate) fn take_in(m: &mut [u8], slot: usize, what: Take, i: usize) -> Answer<Five>
     ensures { Replied (taking what i m.old slot) m.old result m.new }
 {
     let had = load(m, slot);
     let v = had.verdict;
-    let Verdict::Accepted = v else {
+    let Ok(()) = v else {
         return of_verdict(v);
     };
     let got = take_by(had.list, what, i);
     let w = got.verdict;
-    let Verdict::Accepted = w else {
+    let Ok(()) = w else {
         return of_verdict(w);
     };
     of_kid(got.kid, store(m, slot, got.list))
@@ -130,46 +122,46 @@ fn no_other(m: &[u8], slot: usize, other: usize) -> bool
         return true;
     }
     match region_start(m, other) {
-        Number::Is(_) => false,
-        Number::Refused(_) => true,
+        Ok(_) => false,
+        Err(_) => true,
     }
 }
 
 // A call's verdict, where it may have no slot for its second list: 12 comes before that refusal.
-fn ordered(v: Verdict, lost: bool) -> Verdict
-    ensures { verdict result ≡ placed lost (verdict v) }
+fn ordered(v: Answer<()>, lost: bool) -> Answer<()>
+    ensures { outcome result ≡ placed lost (outcome v) }
 {
     if !lost {
         return v;
     }
     match v {
-        Verdict::Accepted => Verdict::Refused(Refusal::Memory),
-        Verdict::Refused(r) => {
-            if number_of(r) == 12 {
+        Ok(()) => Err(Refusal::Memory),
+        Err(r) => {
+            if u8::from(r) == 12 {
                 return v;
             }
-            Verdict::Refused(Refusal::Memory)
+            Err(Refusal::Memory)
         }
     }
 }
 
 // Whether two lists may be written.
-fn fit_both(m: &[u8], slot: usize, other: usize, left: usize, right: usize) -> Verdict
-    ensures { verdict result ≡ ruled (both_rules m.now slot other left right) tt }
+fn fit_both(m: &[u8], slot: usize, other: usize, left: usize, right: usize) -> Answer<()>
+    ensures { outcome result ≡ ruled (both_rules m.now slot other left right) tt }
 {
     if no_other(m, slot, other) {
-        return Verdict::Refused(Refusal::Memory);
+        return Err(Refusal::Memory);
     }
-    let Number::Is(_) = region_start(m, slot) else {
-        return Verdict::Refused(Refusal::Memory);
+    let Ok(_) = region_start(m, slot) else {
+        return Err(Refusal::Memory);
     };
     if MAX_LEN < left {
-        return Verdict::Refused(Refusal::Size);
+        return Err(Refusal::Size);
     }
     if MAX_LEN < right {
-        return Verdict::Refused(Refusal::Size);
+        return Err(Refusal::Size);
     }
-    Verdict::Accepted
+    Ok(())
 }
 
 // Makes two slots these lists.
@@ -179,17 +171,11 @@ fn store_both(
     other: usize,
     left: NodeChildren,
     right: NodeChildren,
-) -> Verdict
+) -> Answer<()>
     ensures { Wrote (both_stored m.old slot other left right) m.old result m.new }
 {
-    let v = fit_both(m, slot, other, left.len, right.len);
-    let Verdict::Accepted = v else {
-        return v;
-    };
-    let first = store(m, slot, left);
-    let Verdict::Accepted = first else {
-        return first;
-    };
+    fit_both(m, slot, other, left.len, right.len)?;
+    store(m, slot, left)?;
     store(m, other, right)
 }
 
@@ -201,41 +187,29 @@ pub(crate) fn part_in(
     what: Part,
     i: usize,
     kid: Kid,
-) -> Verdict
+) -> Answer<()>
     ensures { Wrote (parting what i kid m.old slot other) m.old result m.new }
 {
     let had = load(m, slot);
-    let v = had.verdict;
-    let Verdict::Accepted = v else {
-        return v;
-    };
+    had.verdict?;
     let got = part_by(had.list, what, i, kid);
     let u = got.verdict;
-    let Verdict::Accepted = u else {
+    let Ok(()) = u else {
         return ordered(u, no_other(m, slot, other));
     };
     store_both(m, slot, other, got.left, got.right)
 }
 
 // The children of the lists in two slots shared evenly.
-pub(crate) fn distribute_in(m: &mut [u8], slot: usize, other: usize) -> Verdict
+pub(crate) fn distribute_in(m: &mut [u8], slot: usize, other: usize) -> Answer<()>
     ensures { Wrote (distributing m.old slot other) m.old result m.new }
 {
     let left = load(m, slot);
-    let v = left.verdict;
-    let Verdict::Accepted = v else {
-        return v;
-    };
+    left.verdict?;
     let right = load(m, other);
-    let w = right.verdict;
-    let Verdict::Accepted = w else {
-        return w;
-    };
+    right.verdict?;
     let ours = left.list;
     let got = distribute_with(ours, right.list);
-    let u = got.verdict;
-    let Verdict::Accepted = u else {
-        return u;
-    };
+    got.verdict?;
     store_both(m, slot, other, got.left, got.right)
 }

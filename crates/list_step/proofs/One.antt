@@ -1,4 +1,5 @@
 -- One entry of a list written: what `put_one` comes to when the tests of the code have been passed or not, and the children that the list then has.
+use Rattle.std.specs.Prelude.{Ok, Err}
 use mathlib.Core.Path.{◌≡◌, sym, ap, subst, ◌∙◌}
 use mathlib.Core.Bool.{Bool, true, false, not, cond}
 use mathlib.Core.List.{List, [], ◌∷◌, ◌++◌}
@@ -11,24 +12,19 @@ use lib.Seq.{get_or-take, get_or-set_same, set_split}
 use borrow.Author.Tests.{le-leb, lt-leb, lt-ltb, le-ltb}
 use Rattle.plain.specs.Outcome.{Outcome, Outcome.value, Outcome.refused, ruled, past, kept}
 use Rattle.plain.proofs.Outcome.{rule-applies, rule-passed, one-applies, one-passed, accepted, all-accepted}
-use Rattle.answer.specs.Answers.{refusal_number}
+use Rattle.answer.specs.Answers.{refusal_number, Answer, outcome}
 use Rattle.answer.specs.declared.Refusal.{Refusal}
-use Rattle.answer.specs.declared.Verdict.{Verdict}
-use Rattle.answer.specs.declared.Verdict.TheVariants as Verdict·case
 use Rattle.text_info.specs.declared.TextInfo.{TextInfo}
 use Rattle.text_info.specs.declared.TextSum.{TextSum}
-use Rattle.text_info.specs.declared.Info.{Info}
-use Rattle.text_info.specs.declared.Info.TheVariants as Info·case
-use Rattle.text_info.specs.Info.{info, zeros, Summed}
+use Rattle.text_info.specs.Info.{Summed}
 use Rattle.pool.specs.declared.Kid.{Kid}
 use Rattle.pool.specs.Slot.{len_of, region_of, entries, no_kid, Fits, kid_put}
 use Rattle.pool.specs.Calls.{outside, no_entry, info_of, kid_set, info_set, Wrote}
 use Rattle.pool.proofs.Opened.{info-opened, info-there, wrote-never}
 use Rattle.child_search.specs.Sought.{sum_from, Within, Plus}
-use Rattle.child_search.proofs.Sums.{plus-exact, within-plus, within_more, within_none, sum-turn, sum-end}
+use Rattle.child_search.proofs.Sums.{plus-exact, within-plus, within_more, sum-turn, sum-end}
 use Rattle.nodes.specs.Node.{is_list, children_of, too_wide, narrowed, total_of}
 use Rattle.nodes.proofs.Heads.{not-outside, list-says, one-refused}
-use Rattle.edit_steps.specs.declared.Edit.{Edit}
 use Rattle.edit_steps.specs.declared.Edit.TheVariants as Edit·case
 use Rattle.edit_steps.specs.Made.{Made, Made.same, Made.small, sized, Stepped}
 use Rattle.edit_steps.specs.Grown.{kid}
@@ -46,17 +42,14 @@ module _ (m : List ℕ) (p : ℕ) where
   Added j s = Within s j × (sum_from s (drop j (children_of m p)) ≡ total_of (children_of m p))
 
   module _ (e : is_list m p ≡ true) where
-    pub counts-read : (j : ℕ) (t : TextInfo) → j < len_of m p → (r : Info) → info r ≡ info_of m p j → r ≡ Info·case.Is t → t ≡ (get_or (children_of m p) j no_kid).info
+    pub counts-read : (j : ℕ) (t : TextInfo) → j < len_of m p → (r : Answer TextInfo) → outcome r ≡ info_of m p j → r ≡ Ok t → t ≡ (get_or (children_of m p) j no_kid).info
     counts-read j t l r w z =
         let s = list-says m p e in
         info-opened m p j s.0 (omega (arith, s.2)) r w t z
         ∙ ap (λ (x : Kid). x.info) (sym (get_or-take (len_of m p) (entries (region_of m p)) j no_kid l))
 
-    pub counts-there : {X : Type 0} (j : ℕ) (q : Refusal) → j < len_of m p → (r : Info) → info r ≡ info_of m p j → r ≡ Info·case.Refused q → X
+    pub counts-there : {X : Type 0} (j : ℕ) (q : Refusal) → j < len_of m p → (r : Answer TextInfo) → outcome r ≡ info_of m p j → r ≡ Err q → X
     counts-there j q l r w z = let s = list-says m p e in absurd (info-there m p j s.0 (omega (arith, s.2)) r w q z)
-
-    pub added_none : (s : TextSum) → s ≡ zeros → Added 0 s
-    added_none s z = (within_none s z, ap (λ (x : TextSum). sum_from x (children_of m p)) z)
 
     pub added-one : (j : ℕ) (s : TextSum) (t : TextInfo) (r : TextSum) → j < len_of m p → Added j s → t ≡ (get_or (children_of m p) j no_kid).info
         → t.bytes ≤ 4294967295 → t.chars ≤ 4294967295 → t.utf16_surrogates ≤ 4294967295 → t.line_breaks ≤ 4294967295 → Summed s t r → Added (j + 1) r
@@ -134,8 +127,8 @@ module _ (m : List ℕ) (p i : ℕ) (new : TextInfo) where
         let s = list-says m p e in
         rule-passed 2 (outside m p) (no_entry i ∷ []) (kid_put m p i entry) (not-outside m p s.0) ∙ one-passed 3 (past i 15) (kid_put m p i entry) (le-ltb 15 i (omega (arith, s.2)))
 
-    module _ (v : Verdict) (after : List ℕ) (g : Wrote (info_set m p i new) m v after) where
-      pub entry-never : {X : Type 0} (q : Refusal) → v ≡ Verdict·case.Refused q → X
+    module _ (v : Answer (Unit {0})) (after : List ℕ) (g : Wrote (info_set m p i new) m v after) where
+      pub entry-never : {X : Type 0} (q : Refusal) → v ≡ Err q → X
       entry-never q f = wrote-never _ m v after g _ entry-it q f
 
       pub entry-put : after ≡ kid_put m p i own
@@ -144,29 +137,29 @@ module _ (m : List ℕ) (p i : ℕ) (new : TextInfo) where
           ∙ ap (λ (o : Outcome (List ℕ)). kept m o) entry-it
           ∙ ap (λ (x : Kid). kid_put m p i (kid x.slot new)) (sym (get_or-take (len_of m p) (entries (region_of m p)) i no_kid h))
 
-    module _ (t : Info) (c : info t ≡ ruled ((2, too_wide (total_of anew)) ∷ []) (narrowed (total_of anew))) where
-      pub one-refused-by : (q : Refusal) (after : List ℕ) → t ≡ Info·case.Refused q → after ≡ m → Stepped (one_put m p i new) m (Edit·case.Refused q) after
+    module _ (t : Answer TextInfo) (c : outcome t ≡ ruled ((2, too_wide (total_of anew)) ∷ []) (narrowed (total_of anew))) where
+      pub one-refused-by : (q : Refusal) (after : List ℕ) → t ≡ Err q → after ≡ m → Stepped (one_put m p i new) m (Err q) after
       one-refused-by q after z g =
-          let w = one-refused 2 (too_wide (total_of anew)) (narrowed (total_of anew)) (refusal_number q) (sym (ap info z) ∙ c) in
+          let w = one-refused 2 (too_wide (total_of anew)) (narrowed (total_of anew)) (refusal_number q) (sym (ap outcome z) ∙ c) in
           step-refused (one_put m p i new) m q after (one-there ∙ one-applies 2 (too_wide (total_of anew)) done w.0 ∙ ap (λ (k : ℕ). refused k) (sym w.1)) g
 
-      module _ (all : TextInfo) (z : t ≡ Info·case.Is all) (n : ℕ) (len : len_of m p ≡ n) (after : List ℕ) (g : after ≡ kid_put m p i own) where
+      module _ (all : TextInfo) (z : t ≡ Ok all) (n : ℕ) (len : len_of m p ≡ n) (after : List ℕ) (g : after ≡ kid_put m p i own) where
         put_is : one_put m p i new ≡ value (sized 4 n all, kid_put m p i own)
         put_is =
-            let a = accepted 2 (too_wide (total_of anew)) [] (narrowed (total_of anew)) all (sym c ∙ ap info z) in
+            let a = accepted 2 (too_wide (total_of anew)) [] (narrowed (total_of anew)) all (sym c ∙ ap outcome z) in
             one-there
             ∙ one-passed 2 (too_wide (total_of anew)) done a.0
             ∙ ap (λ (j : ℕ). value (sized 4 j (counts_of anew), kid_put m p i own)) len
             ∙ ap (λ (x : TextInfo). value (sized 4 n x, kid_put m p i own)) (all-accepted (narrowed (total_of anew)) all a.1)
 
-        pub one-small : n < 4 → Stepped (one_put m p i new) m (Edit·case.Small all) after
+        pub one-small : n < 4 → Stepped (one_put m p i new) m (Ok (Edit·case.Small all)) after
         one-small l =
-            step-done (one_put m p i new) m (sized 4 n all) (kid_put m p i own) after (Edit·case.Small all) put_is
+            step-done (one_put m p i new) m (sized 4 n all) (kid_put m p i own) after (Ok (Edit·case.Small all)) put_is
             (ap (λ (b : Bool). value (cond b (small all) (same all))) (sym (lt-ltb n 4 l))) g
 
-        pub one_same : 4 ≤ n → Stepped (one_put m p i new) m (Edit·case.Same all) after
+        pub one_same : 4 ≤ n → Stepped (one_put m p i new) m (Ok (Edit·case.Same all)) after
         one_same l =
-            step-done (one_put m p i new) m (sized 4 n all) (kid_put m p i own) after (Edit·case.Same all) put_is
+            step-done (one_put m p i new) m (sized 4 n all) (kid_put m p i own) after (Ok (Edit·case.Same all)) put_is
             (ap (λ (b : Bool). value (cond b (small all) (same all))) (sym (le-ltb n 4 l))) g
 
     -- ── the memory ──

@@ -1,4 +1,5 @@
 -- From the answers of the calls below to the outcomes of `Steps`: a step answered, and the children of the list with one counted anew.
+use Rattle.std.specs.Prelude.{Ok, Err}
 use mathlib.Core.Path.{◌≡◌, refl, sym, ap, subst, ◌∙◌}
 use mathlib.Core.Bool.{Bool, true, false, not}
 use mathlib.Core.List.{List, [], ◌∷◌, ◌++◌}
@@ -11,10 +12,9 @@ use lib.Seq.{length-take-le, get_or-take, set-append_left, set_split}
 use borrow.Author.Tests.{le-leb, lt-leb, leb-false, not-false}
 use Rattle.plain.specs.Outcome.{Outcome, Outcome.value, Outcome.refused, kept, mapped}
 use Rattle.plain.proofs.Outcome.{rule-applies, rule-passed, one-applies, one-passed, accepted, all-accepted}
-use Rattle.answer.specs.Answers.{refusal_number, verdict}
+use Rattle.answer.specs.Answers.{refusal_number, outcome, Answer}
 use Rattle.answer.specs.declared.Refusal.{Refusal}
 use Rattle.answer.specs.declared.Refusal.TheVariants as Refusal·case
-use Rattle.answer.specs.declared.Verdict.TheVariants as Verdict·case
 use Rattle.leaf_bytes.proofs.Opened.{never}
 use Rattle.text_info.specs.declared.TextInfo.{TextInfo}
 use Rattle.pool.specs.declared.Kid.{Kid}
@@ -30,7 +30,6 @@ use Rattle.nodes.specs.Calls.{loaded}
 use Rattle.nodes.proofs.Heads.{not-outside, list-says}
 use Rattle.nodes.proofs.Rules.{loaded-is, loaded-not}
 use Rattle.edit_steps.specs.declared.Edit.{Edit}
-use Rattle.edit_steps.specs.declared.Edit.TheVariants as Edit·case
 use Rattle.edit_steps.specs.Made.{Made, edit, Stepped}
 use Rattle.edit_steps.specs.Grown.{kid}
 use Rattle.list_step.specs.Steps.{recount, recounted}
@@ -38,13 +37,13 @@ use Rattle.list_step.specs.Steps.{recount, recounted}
 -- ── a step ──
 
 module _ (o : Outcome (Made × List ℕ)) (m : List ℕ) where
-  pub step-done : (made : Made) (later after : List ℕ) (r : Edit) → o ≡ value (made, later) → edit r ≡ value made → after ≡ later → Stepped o m r after
+  pub step-done : (made : Made) (later after : List ℕ) (r : Answer Edit) → o ≡ value (made, later) → edit r ≡ value made → after ≡ later → Stepped o m r after
   step-done made later after r e f g = subst (λ (p : Outcome (Made × List ℕ)). Stepped p m r after) (sym e) (record { answered = f; memory = g })
 
-  pub step-refused : (q : Refusal) (after : List ℕ) → o ≡ refused (refusal_number q) → after ≡ m → Stepped o m (Edit·case.Refused q) after
-  step-refused q after e g = subst (λ (p : Outcome (Made × List ℕ)). Stepped p m (Edit·case.Refused q) after) (sym e) (record { answered = refl; memory = g })
+  pub step-refused : (q : Refusal) (after : List ℕ) → o ≡ refused (refusal_number q) → after ≡ m → Stepped o m (Err q) after
+  step-refused q after e g = subst (λ (p : Outcome (Made × List ℕ)). Stepped p m (Err q) after) (sym e) (record { answered = refl; memory = g })
 
-  pub step-as : (p : Outcome (Made × List ℕ)) (r : Edit) (after : List ℕ) → o ≡ p → Stepped p m r after → Stepped o m r after
+  pub step-as : (p : Outcome (Made × List ℕ)) (r : Answer Edit) (after : List ℕ) → o ≡ p → Stepped p m r after → Stepped o m r after
   step-as p r after e s = subst (λ (x : Outcome (Made × List ℕ)). Stepped x m r after) (sym e) s
 
 -- ── the children ──
@@ -80,12 +79,12 @@ recount-is c i info h e =
 -- ── of the list in a slot ──
 
 module _ (m : List ℕ) (p : ℕ) where
-  pub load-opened : (r : Listed) → Listing (loaded m p) (list_of []) r → r.verdict ≡ Verdict·case.Accepted → (is_list m p ≡ true) × (r.list ≡ list_of (children_of m p))
+  pub load-opened : (r : Listed) → Listing (loaded m p) (list_of []) r → r.verdict ≡ (Ok tt) → (is_list m p ≡ true) × (r.list ≡ list_of (children_of m p))
   load-opened r w e = go (is_list m p) refl
     where
       go : (b : Bool) → is_list m p ≡ b → (is_list m p ≡ true) × (r.list ≡ list_of (children_of m p))
       go true z = (z, w.list ∙ ap (kept (list_of [])) (loaded-is m p z))
-      go false z = absurd (never 2 tt (sym (w.answered ∙ ap (mapped (λ x. tt)) (loaded-not m p z)) ∙ ap verdict e))
+      go false z = absurd (never 2 tt (sym (w.answered ∙ ap (mapped (λ x. tt)) (loaded-not m p z)) ∙ ap outcome e))
 
   pub children-few : is_list m p ≡ true → length (children_of m p) ≡ len_of m p
   children-few e = length-take-le (len_of m p) (entries (region_of m p)) (omega (arith, (list-says m p e).2, entries-length (region_of m p)))
@@ -113,21 +112,21 @@ module _ (m : List ℕ) (p : ℕ) where
         let b = accepted 3 (leb (len_of m p) i) [] new c a.1 in
         (not-false _ a.0, leb-false (len_of m p) i b.0, sym (all-accepted new c b.1))
 
-    pub load-refused : (q : Refusal) (r : Listed) → Listing (loaded m p) (list_of []) r → r.verdict ≡ Verdict·case.Refused q → Listing (recounted m p i info) (list_of []) r
+    pub load-refused : (q : Refusal) (r : Listed) → Listing (loaded m p) (list_of []) r → r.verdict ≡ Err q → Listing (recounted m p i info) (list_of []) r
     load-refused q r w e = go (is_list m p) refl
       where
         go : (b : Bool) → is_list m p ≡ b → Listing (recounted m p i info) (list_of []) r
-        go true z = absurd (never (refusal_number q) tt (sym (ap verdict e) ∙ w.answered ∙ ap (mapped (λ x. tt)) (loaded-is m p z)))
+        go true z = absurd (never (refusal_number q) tt (sym (ap outcome e) ∙ w.answered ∙ ap (mapped (λ x. tt)) (loaded-is m p z)))
         go false z = subst (λ (o : Outcome NodeChildren). Listing o (list_of []) r) (loaded-not m p z ∙ sym (recounted-none z)) w
 
-    module _ (r : Listed) (w : Listing (loaded m p) (list_of []) r) (e : r.verdict ≡ Verdict·case.Accepted) where
+    module _ (r : Listed) (w : Listing (loaded m p) (list_of []) r) (e : r.verdict ≡ (Ok tt)) where
       len_is : r.list.len ≡ len_of m p
       len_is = let o = load-opened r w e in ap (λ (x : NodeChildren). x.len) o.1 ∙ list-len (children_of m p) ∙ children-few o.0
 
       pub recount-past : (none : NodeChildren) → r.list.len ≤ i → none ≡ list_of []
-          → Listing (recounted m p i info) (list_of []) (record { verdict = Verdict·case.Refused Refusal·case.Place; list = none })
+          → Listing (recounted m p i info) (list_of []) (record { verdict = Err Refusal·case.Place; list = none })
       recount-past none h f =
-          subst (λ (o : Outcome NodeChildren). Listing o (list_of []) (record { verdict = Verdict·case.Refused Refusal·case.Place; list = none }))
+          subst (λ (o : Outcome NodeChildren). Listing o (list_of []) (record { verdict = Err Refusal·case.Place; list = none }))
           (sym (recounted-past (load-opened r w e).0 (omega (arith, len_is)))) (record { answered = refl; list = f })
 
       pub recount-ready : (r.list.len ≤ 16) × (r.list ≡ list_of (kids r.list))
@@ -136,34 +135,34 @@ module _ (m : List ℕ) (p : ℕ) where
           (omega (arith, len_is, (list-says m p o.0).2), o.1 ∙ ap list_of (sym (is-kids r.list (children_of m p) o.1)))
 
       pub recount-done : (c : NodeChildren) → i < r.list.len → c ≡ list_of (recount i info (kids r.list))
-          → Listing (recounted m p i info) (list_of []) (record { verdict = Verdict·case.Accepted; list = c })
+          → Listing (recounted m p i info) (list_of []) (record { verdict = (Ok tt); list = c })
       recount-done c h f =
           let o = load-opened r w e in
-          subst (λ (x : Outcome NodeChildren). Listing x (list_of []) (record { verdict = Verdict·case.Accepted; list = c }))
+          subst (λ (x : Outcome NodeChildren). Listing x (list_of []) (record { verdict = (Ok tt); list = c }))
           (sym (recounted-is o.0 (omega (arith, len_is))))
           (record { answered = refl; list = f ∙ ap (λ (x : List Kid). list_of (recount i info x)) (is-kids r.list (children_of m p) o.1) })
 
     -- an answer of `recounted`
     module _ (r : Listed) (w : Listing (recounted m p i info) (list_of []) r) where
-      pub family-refused : (q : Refusal) → r.verdict ≡ Verdict·case.Refused q → recounted m p i info ≡ refused (refusal_number q)
+      pub family-refused : (q : Refusal) → r.verdict ≡ Err q → recounted m p i info ≡ refused (refusal_number q)
       family-refused q e = go (recounted m p i info) refl w
         where
           go : (o : Outcome NodeChildren) → recounted m p i info ≡ o → Listing o (list_of []) r → recounted m p i info ≡ refused (refusal_number q)
-          go (value c) z v = absurd (never (refusal_number q) tt (sym (ap verdict e) ∙ v.answered))
+          go (value c) z v = absurd (never (refusal_number q) tt (sym (ap outcome e) ∙ v.answered))
           go (refused n) z v =
-              let y : ◌≡◌ {A = Outcome (Unit {0})} (refused (refusal_number q)) (refused n) = sym (ap verdict e) ∙ v.answered in
+              let y : ◌≡◌ {A = Outcome (Unit {0})} (refused (refusal_number q)) (refused n) = sym (ap outcome e) ∙ v.answered in
               let x : refusal_number q ≡ n = cc in
               z ∙ ap (λ (k : ℕ). refused k) (sym x)
 
-      pub family-value : r.verdict ≡ Verdict·case.Accepted → recounted m p i info ≡ value r.list
+      pub family-value : r.verdict ≡ (Ok tt) → recounted m p i info ≡ value r.list
       family-value e = go (recounted m p i info) refl w
         where
           go : (o : Outcome NodeChildren) → recounted m p i info ≡ o → Listing o (list_of []) r → recounted m p i info ≡ value r.list
           go (value c) z v = z ∙ ap (λ (x : NodeChildren). value x) (sym v.list)
-          go (refused n) z v = absurd (never n tt (sym v.answered ∙ ap verdict e))
+          go (refused n) z v = absurd (never n tt (sym v.answered ∙ ap outcome e))
 
       -- the slot is there, and the list has the child and at most sixteen
-      pub family-ready : r.verdict ≡ Verdict·case.Accepted → (outside m p ≡ false) × (i + 1 ≤ r.list.len) × (r.list.len ≤ 16)
+      pub family-ready : r.verdict ≡ (Ok tt) → (outside m p ≡ false) × (i + 1 ≤ r.list.len) × (r.list.len ≤ 16)
       family-ready e =
           let o = recounted-only r.list (family-value e) in
           let s = list-says m p o.0 in

@@ -1,4 +1,5 @@
 -- From the answers of the calls below to the outcomes of `Steps`: children stored in one list, in two, and with one child more.
+use Rattle.std.specs.Prelude.{Ok, Err}
 use mathlib.Core.Path.{◌≡◌, refl, sym, ap, subst, ◌∙◌}
 use mathlib.Core.Bool.{Bool, true, false, cond}
 use mathlib.Core.List.{List, [], ◌∷◌}
@@ -8,19 +9,12 @@ use lib.ListN.{length, take, drop, length-append, length-take, length-drop}
 use borrow.Author.Tests.{lt-ltb, le-ltb}
 use Rattle.plain.specs.Outcome.{Outcome, Outcome.value, Outcome.refused, kept, mapped}
 use Rattle.plain.proofs.Outcome.{one-applies, one-passed, accepted, all-accepted}
-use Rattle.answer.specs.Answers.{refusal_number, number}
+use Rattle.answer.specs.Answers.{refusal_number, Answer, outcome}
 use Rattle.answer.specs.declared.Refusal.{Refusal}
-use Rattle.answer.specs.declared.Number.{Number}
-use Rattle.answer.specs.declared.Number.TheVariants as Number·case
-use Rattle.answer.specs.declared.Verdict.{Verdict}
-use Rattle.answer.specs.declared.Verdict.TheVariants as Verdict·case
-use Rattle.answer.proofs.Unique.{verdict-one}
-use Rattle.answer.proofs.Opened.{verdict-never}
+use Rattle.answer.proofs.Unique.{answer-one}
+use Rattle.answer.proofs.Opened.{never-refused}
 use Rattle.leaf_bytes.proofs.Opened.{never}
 use Rattle.text_info.specs.declared.TextInfo.{TextInfo}
-use Rattle.text_info.specs.declared.Info.{Info}
-use Rattle.text_info.specs.declared.Info.TheVariants as Info·case
-use Rattle.text_info.specs.Info.{info}
 use Rattle.pool.specs.declared.Kid.{Kid}
 use Rattle.pool.specs.Slot.{slot_start, next_of}
 use Rattle.pool.specs.Calls.{outside, Wrote}
@@ -50,13 +44,13 @@ use Rattle.list_step.proofs.Rules.{step-done, step-refused, step-as, list-len}
 
 -- ── counts ──
 
-module _ (c : NodeChildren) (few : c.len ≤ 16) (r : Info) (p : info r ≡ list_counted c) where
+module _ (c : NodeChildren) (few : c.len ≤ 16) (r : Answer TextInfo) (p : outcome r ≡ list_counted c) where
   -- the counts were refused, and so were they too wide
-  pub wide : (q : Refusal) → r ≡ Info·case.Refused q → (too_wide (total_of (kids c)) ≡ true) × (refusal_number q ≡ 2)
-  wide q e = one-refused 2 (too_wide (total_of (kids c))) (narrowed (total_of (kids c))) (refusal_number q) (sym (ap info e) ∙ p ∙ few-counted c few)
+  pub wide : (q : Refusal) → r ≡ Err q → (too_wide (total_of (kids c)) ≡ true) × (refusal_number q ≡ 2)
+  wide q e = one-refused 2 (too_wide (total_of (kids c))) (narrowed (total_of (kids c))) (refusal_number q) (sym (ap outcome e) ∙ p ∙ few-counted c few)
 
-  pub narrow : (i : TextInfo) → r ≡ Info·case.Is i → (too_wide (total_of (kids c)) ≡ false) × (i ≡ narrowed (total_of (kids c)))
-  narrow i e = let o = list-counted-only c i (sym p ∙ ap info e) in (o.1, o.2)
+  pub narrow : (i : TextInfo) → r ≡ Ok i → (too_wide (total_of (kids c)) ≡ false) × (i ≡ narrowed (total_of (kids c)))
+  narrow i e = let o = list-counted-only c i (sym p ∙ ap outcome e) in (o.1, o.2)
 
 -- ── one list ──
 
@@ -71,39 +65,39 @@ module _ (m : List ℕ) (p : ℕ) (c : NodeChildren) where
   keeping-is e = one-passed 2 (too_wide (total_of (kids c))) (sized 4 c.len (narrowed (total_of (kids c))), list_put m p c) e
 
   -- a call of `store` on a slot that is there
-  pub was-stored : (v : Verdict) (after : List ℕ) → Wrote (stored m p c) m v after × Fitted v c.arr → slot_start p + 640 ≤ length m → c.len ≤ 16
+  pub was-stored : (v : Answer (Unit {0})) (after : List ℕ) → Wrote (stored m p c) m v after × Fitted v c.arr → slot_start p + 640 ≤ length m → c.len ≤ 16
       → (after ≡ list_put m p c) × Fitting c.arr
   was-stored v after w h k =
       let e = stored_is m p c h k in
-      let z = verdict-one v Verdict·case.Accepted (w.0.answered ∙ ap (mapped (λ x. tt)) e) in
-      (w.0.memory ∙ ap (λ (o : Outcome (List ℕ)). kept m o) e, subst (λ (x : Verdict). Fitted x c.arr) z w.1)
+      let z = answer-one v (Ok tt) (w.0.answered ∙ ap (mapped (λ x. tt)) e) in
+      (w.0.memory ∙ ap (λ (o : Outcome (List ℕ)). kept m o) e, subst (λ (x : Answer (Unit {0})). Fitted x c.arr) z w.1)
 
-  pub stored-never : {X : Type 0} (v : Verdict) (after : List ℕ) → Wrote (stored m p c) m v after × Fitted v c.arr → slot_start p + 640 ≤ length m → c.len ≤ 16
-      → (q : Refusal) → v ≡ Verdict·case.Refused q → X
+  pub stored-never : {X : Type 0} (v : Answer (Unit {0})) (after : List ℕ) → Wrote (stored m p c) m v after × Fitted v c.arr → slot_start p + 640 ≤ length m → c.len ≤ 16
+      → (q : Refusal) → v ≡ Err q → X
   stored-never v after w h k q e = wrote-never _ m v after w.0 _ (stored_is m p c h k) q e
 
-  module _ (there : outside m p ≡ false) (few : c.len ≤ 16) (r : Info) (counted : info r ≡ list_counted c) where
-    pub keep-refused : (q : Refusal) (after : List ℕ) → r ≡ Info·case.Refused q → after ≡ m → Stepped (keeping m p c) m (Edit·case.Refused q) after
+  module _ (there : outside m p ≡ false) (few : c.len ≤ 16) (r : Answer TextInfo) (counted : outcome r ≡ list_counted c) where
+    pub keep-refused : (q : Refusal) (after : List ℕ) → r ≡ Err q → after ≡ m → Stepped (keeping m p c) m (Err q) after
     keep-refused q after e g = let w = wide c few r counted q e in step-refused (keeping m p c) m q after (keeping-not (refusal_number q) w.1 w.0) g
 
-    module _ (i : TextInfo) (e : r ≡ Info·case.Is i) (v : Verdict) (after : List ℕ) (w : Wrote (stored m p c) m v after × Fitted v c.arr) where
+    module _ (i : TextInfo) (e : r ≡ Ok i) (v : Answer (Unit {0})) (after : List ℕ) (w : Wrote (stored m p c) m v after × Fitted v c.arr) where
       sized-is : keeping m p c ≡ value (sized 4 c.len i, list_put m p c)
       sized-is = let n = narrow c few r counted i e in keeping-is n.0 ∙ ap (λ (x : TextInfo). value (sized 4 c.len x, list_put m p c)) (sym n.1)
 
       lies : after ≡ list_put m p c
       lies = (was-stored v after w (inside m p there) few).0
 
-      pub keep-never : {X : Type 0} (q : Refusal) → v ≡ Verdict·case.Refused q → X
+      pub keep-never : {X : Type 0} (q : Refusal) → v ≡ Err q → X
       keep-never q f = stored-never v after w (inside m p there) few q f
 
-      pub keep-small : c.len < 4 → Stepped (keeping m p c) m (Edit·case.Small i) after
+      pub keep-small : c.len < 4 → Stepped (keeping m p c) m (Ok (Edit·case.Small i)) after
       keep-small h =
-          step-done (keeping m p c) m (sized 4 c.len i) (list_put m p c) after (Edit·case.Small i) sized-is
+          step-done (keeping m p c) m (sized 4 c.len i) (list_put m p c) after (Ok (Edit·case.Small i)) sized-is
           (ap (λ (b : Bool). value (cond b (small i) (same i))) (sym (lt-ltb c.len 4 h))) lies
 
-      pub keep_same : 4 ≤ c.len → Stepped (keeping m p c) m (Edit·case.Same i) after
+      pub keep_same : 4 ≤ c.len → Stepped (keeping m p c) m (Ok (Edit·case.Same i)) after
       keep_same h =
-          step-done (keeping m p c) m (sized 4 c.len i) (list_put m p c) after (Edit·case.Same i) sized-is
+          step-done (keeping m p c) m (sized 4 c.len i) (list_put m p c) after (Ok (Edit·case.Same i)) sized-is
           (ap (λ (b : Bool). value (cond b (small i) (same i))) (sym (le-ltb c.len 4 h))) lies
 
 -- ── two lists ──
@@ -122,28 +116,28 @@ module _ (m : List ℕ) (p : ℕ) (a : NodeChildren) (i : TextInfo) (b : NodeChi
   unfolding laying
   laying-by o e = ap (λ (x : Outcome (ℕ × List ℕ)). and_then x both) e
 
-  module _ (r : Number) (l : List ℕ) (took : Took (taken m) m r l) where
-    pub lay-refused : (q : Refusal) → r ≡ Number·case.Refused q → Stepped (laying m p a i b j) m (Edit·case.Refused q) l
+  module _ (r : Answer ℕ) (l : List ℕ) (took : Took (taken m) m r l) where
+    pub lay-refused : (q : Refusal) → r ≡ Err q → Stepped (laying m p a i b j) m (Err q) l
     lay-refused q e = go (taken m) refl took
       where
-        go : (o : Outcome (ℕ × List ℕ)) → taken m ≡ o → Took o m r l → Stepped (laying m p a i b j) m (Edit·case.Refused q) l
-        go (value t) z w = absurd (never (refusal_number q) t.0 (sym (ap number e) ∙ w.answered))
+        go : (o : Outcome (ℕ × List ℕ)) → taken m ≡ o → Took o m r l → Stepped (laying m p a i b j) m (Err q) l
+        go (value t) z w = absurd (never (refusal_number q) t.0 (sym (ap outcome e) ∙ w.answered))
         go (refused n) z w =
-            let y : ◌≡◌ {A = Outcome ℕ} (refused (refusal_number q)) (refused n) = sym (ap number e) ∙ w.answered in
+            let y : ◌≡◌ {A = Outcome ℕ} (refused (refusal_number q)) (refused n) = sym (ap outcome e) ∙ w.answered in
             let x : refusal_number q ≡ n = cc in
             step-refused (laying m p a i b j) m q l (laying-by (refused n) z ∙ ap (λ (k : ℕ). refused k) (sym x)) w.memory
 
-    took-value : (u : ℕ) → r ≡ Number·case.Is u → taken m ≡ value (u, l)
+    took-value : (u : ℕ) → r ≡ Ok u → taken m ≡ value (u, l)
     took-value u e = go (taken m) refl took
       where
         go : (o : Outcome (ℕ × List ℕ)) → taken m ≡ o → Took o m r l → taken m ≡ value (u, l)
-        go (refused n) z w = absurd (never n u (sym w.answered ∙ ap number e))
+        go (refused n) z w = absurd (never n u (sym w.answered ∙ ap outcome e))
         go (value t) z w =
-            let y : ◌≡◌ {A = Outcome ℕ} (value u) (value t.0) = sym (ap number e) ∙ w.answered in
+            let y : ◌≡◌ {A = Outcome ℕ} (value u) (value t.0) = sym (ap outcome e) ∙ w.answered in
             let x : u ≡ t.0 = cc in
             z ∙ ap (λ (s : ℕ). value (s, t.1)) (sym x) ∙ ap (λ (s : List ℕ). value (u, s)) (sym w.memory)
 
-    module _ (there : outside m p ≡ false) (few : a.len ≤ 16) (less : b.len ≤ 16) (u : ℕ) (e : r ≡ Number·case.Is u) where
+    module _ (there : outside m p ≡ false) (few : a.len ≤ 16) (less : b.len ≤ 16) (u : ℕ) (e : r ≡ Ok u) where
       -- the slot taken lies in the memory, which is as long as before
       lies-there : (slot_start u + 640 ≤ length m) × (length l ≡ length m)
       lies-there =
@@ -152,11 +146,11 @@ module _ (m : List ℕ) (p : ℕ) (a : NodeChildren) (i : TextInfo) (b : NodeChi
           let y = taken-all m (u, l) t in
           (omega (arith, ap (λ (q : ℕ × List ℕ). q.0) y), ap (λ (q : ℕ × List ℕ). length q.1) y ∙ (number-around m (omega arith) 32 (next_of m (free_of m)) (omega arith)).size)
 
-      module _ (v : Verdict) (n : List ℕ) (f : Wrote (stored l p a) l v n × Fitted v a.arr) where
+      module _ (v : Answer (Unit {0})) (n : List ℕ) (f : Wrote (stored l p a) l v n × Fitted v a.arr) where
         first-there : slot_start p + 640 ≤ length l
         first-there = omega (arith, inside m p there, lies-there.1)
 
-        pub left-never : {X : Type 0} (q : Refusal) → v ≡ Verdict·case.Refused q → X
+        pub left-never : {X : Type 0} (q : Refusal) → v ≡ Err q → X
         left-never q z = stored-never l p a v n f first-there few q z
 
         left-stored : (n ≡ list_put l p a) × Fitting a.arr
@@ -165,13 +159,13 @@ module _ (m : List ℕ) (p : ℕ) (a : NodeChildren) (i : TextInfo) (b : NodeChi
         other-there : slot_start u + 640 ≤ length n
         other-there = omega (arith, lies-there.0, lies-there.1, ap length left-stored.0 ∙ list-size l p a first-there few left-stored.1.sixteen)
 
-        module _ (w : Verdict) (after : List ℕ) (g : Wrote (stored n u b) n w after × Fitted w b.arr) where
-          pub right-never : {X : Type 0} (q : Refusal) → w ≡ Verdict·case.Refused q → X
+        module _ (w : Answer (Unit {0})) (after : List ℕ) (g : Wrote (stored n u b) n w after × Fitted w b.arr) where
+          pub right-never : {X : Type 0} (q : Refusal) → w ≡ Err q → X
           right-never q z = stored-never n u b w after g other-there less q z
 
-          pub lay_done : Stepped (laying m p a i b j) m (Edit·case.Split i u j) after
+          pub lay_done : Stepped (laying m p a i b j) m (Ok (Edit·case.Split i u j)) after
           lay_done =
-              step-done (laying m p a i b j) m (split i u j) (list_put (list_put l p a) u b) after (Edit·case.Split i u j) (laying-by (value (u, l)) (took-value u e)) refl
+              step-done (laying m p a i b j) m (split i u j) (list_put (list_put l p a) u b) after (Ok (Edit·case.Split i u j)) (laying-by (value (u, l)) (took-value u e)) refl
               ((was-stored n u b w after g other-there less).0 ∙ ap (λ (s : List ℕ). list_put s u b) left-stored.0)
 
 module _ (m : List ℕ) (p : ℕ) (a b : NodeChildren) where
@@ -193,19 +187,19 @@ module _ (m : List ℕ) (p : ℕ) (a b : NodeChildren) where
   unfolding parting
   parting-is e f = rw (e, f)
 
-  module _ (few : a.len ≤ 16) (r : Info) (counted : info r ≡ list_counted a) where
-    pub part_left : (q : Refusal) (after : List ℕ) → r ≡ Info·case.Refused q → after ≡ m → Stepped (parting m p a b) m (Edit·case.Refused q) after
+  module _ (few : a.len ≤ 16) (r : Answer TextInfo) (counted : outcome r ≡ list_counted a) where
+    pub part_left : (q : Refusal) (after : List ℕ) → r ≡ Err q → after ≡ m → Stepped (parting m p a b) m (Err q) after
     part_left q after e g =
         let w = wide a few r counted q e in
         step-refused (parting m p a b) m q after (parting-left w.0 ∙ ap (λ (k : ℕ). refused k) (sym w.1)) g
 
-    module _ (i : TextInfo) (e : r ≡ Info·case.Is i) (less : b.len ≤ 16) (s : Info) (other : info s ≡ list_counted b) where
-      pub part_right : (q : Refusal) (after : List ℕ) → s ≡ Info·case.Refused q → after ≡ m → Stepped (parting m p a b) m (Edit·case.Refused q) after
+    module _ (i : TextInfo) (e : r ≡ Ok i) (less : b.len ≤ 16) (s : Answer TextInfo) (other : outcome s ≡ list_counted b) where
+      pub part_right : (q : Refusal) (after : List ℕ) → s ≡ Err q → after ≡ m → Stepped (parting m p a b) m (Err q) after
       part_right q after f g =
           let w = wide b less s other q f in
           step-refused (parting m p a b) m q after (parting-right (narrow a few r counted i e).0 w.0 ∙ ap (λ (k : ℕ). refused k) (sym w.1)) g
 
-      pub part-done : (j : TextInfo) (x : Edit) (after : List ℕ) → s ≡ Info·case.Is j → Stepped (laying m p a i b j) m x after → Stepped (parting m p a b) m x after
+      pub part-done : (j : TextInfo) (x : Answer Edit) (after : List ℕ) → s ≡ Ok j → Stepped (laying m p a i b j) m x after → Stepped (parting m p a b) m x after
       part-done j x after f w =
           let n = narrow a few r counted i e in
           let k = narrow b less s other j f in
@@ -233,21 +227,21 @@ module _ (m : List ℕ) (p j : ℕ) (k : Kid) (c : NodeChildren) where
     inserted-is : r.list ≡ list_of more
     inserted-is = w.list ∙ ap (kept c) (inserted-done c j k h room)
 
-    pub insert-never : {X : Type 0} (q : Refusal) → r.verdict ≡ Verdict·case.Refused q → X
-    insert-never q e = verdict-never q r.verdict (w.answered ∙ ap (mapped (λ x. tt)) (inserted-done c j k h room)) e
+    pub insert-never : {X : Type 0} (q : Refusal) → r.verdict ≡ Err q → X
+    insert-never q e = never-refused q r.verdict tt (w.answered ∙ ap (mapped (λ x. tt)) (inserted-done c j k h room)) e
 
     pub one-few : r.list.len ≤ 16
     one-few = omega (arith, ap (λ (x : NodeChildren). x.len) inserted-is ∙ list-len more, more-length (omega arith) h)
 
-    pub add-one-done : (x : Edit) (after : List ℕ) → Stepped (keeping m p r.list) m x after → Stepped (adding m p j k c) m x after
+    pub add-one-done : (x : Answer Edit) (after : List ℕ) → Stepped (keeping m p r.list) m x after → Stepped (adding m p j k c) m x after
     add-one-done x after s = step-as (adding m p j k c) m (keeping m p r.list) x after (adding-one room ∙ ap (keeping m p) (sym inserted-is)) s
 
   module _ (h : j ≤ c.len) (few : c.len ≤ 16) (t : Two) (w : Parting (inserted_split c j k) c (list_of []) t) (full : 16 ≤ c.len) where
     split-is : inserted_split c j k ≡ value (halves more)
     split-is = insert-split-done c j k (omega arith) h few
 
-    pub split-never : {X : Type 0} (q : Refusal) → t.verdict ≡ Verdict·case.Refused q → X
-    split-never q e = verdict-never q t.verdict (w.answered ∙ ap (mapped (λ x. tt)) split-is) e
+    pub split-never : {X : Type 0} (q : Refusal) → t.verdict ≡ Err q → X
+    split-never q e = never-refused q t.verdict tt (w.answered ∙ ap (mapped (λ x. tt)) split-is) e
 
     left_is : t.left ≡ (halves more).0
     left_is = w.left-list ∙ ap (λ (o : Outcome (NodeChildren × NodeChildren)). kept c (mapped (λ x. x.0) o)) split-is
@@ -263,7 +257,7 @@ module _ (m : List ℕ) (p j : ℕ) (k : Kid) (c : NodeChildren) where
           omega (arith, ap (λ (x : NodeChildren). x.len) right_is ∙ list-len (drop at more), length-drop at more),
         )
 
-    pub add-two-done : (x : Edit) (after : List ℕ) → Stepped (parting m p t.left t.right) m x after → Stepped (adding m p j k c) m x after
+    pub add-two-done : (x : Answer Edit) (after : List ℕ) → Stepped (parting m p t.left t.right) m x after → Stepped (adding m p j k c) m x after
     add-two-done x after s =
         step-as (adding m p j k c) m (parting m p t.left t.right) x after
         (adding-two full ∙ ap (λ (l : NodeChildren). parting m p l (halves more).1) (sym left_is) ∙ ap (λ (l : NodeChildren). parting m p t.left l) (sym right_is)) s

@@ -1,4 +1,5 @@
 -- A mark as it is read, what is put for the marks one by one, the lines of the live ones, and the end.
+use Rattle.std.specs.Prelude.{Ok, Err}
 use mathlib.Core.Path.{◌≡◌, refl, sym, ap, subst, ◌∙◌}
 use mathlib.Core.Bool.{true}
 use mathlib.Core.List.{List, [], ◌∷◌, ◌++◌, append_assoc, append-nil, map}
@@ -12,10 +13,8 @@ use Rattle.plain.specs.Outcome.{Outcome, Outcome.value, Outcome.refused, ruled, 
 use Rattle.plain.proofs.Outcome.{clash}
 use Rattle.plain_note.specs.Note.{Note, Mark, Mark.free, Mark.at, most_by}
 use Rattle.plain_calls.specs.Marks.{is_free, place_in, mark_of, standing, line_beside}
-use Rattle.answer.specs.Answers.{refusal_number, number}
+use Rattle.answer.specs.Answers.{refusal_number, Answer, outcome}
 use Rattle.answer.specs.declared.Refusal.{Refusal}
-use Rattle.answer.specs.declared.Number.{Number}
-use Rattle.answer.specs.declared.Number.TheVariants as Number·case
 use Rattle.note_head.specs.Head.{root_of, own_of}
 use Rattle.memory.specs.Formed.{well_formed, note_of, of_note}
 use Rattle.memory.proofs.Formed.{note-called}
@@ -50,16 +49,16 @@ unfolding ruled
 stands_live free p e = clash 7 p e
 stands_live (at q) p e = let z : q ≡ p = cc in ap (λ (n : ℕ). at n) z
 
-module _ (m : List ℕ) (k : ℕ) (r : Number) (promise : number r ≡ standing_in m k) where
-  stood : stands (mark_of (note_of m) k) ≡ number r
+module _ (m : List ℕ) (k : ℕ) (r : Answer ℕ) (promise : outcome r ≡ standing_in m k) where
+  stood : stands (mark_of (note_of m) k) ≡ outcome r
   unfolding standing
   stood = standing-is m k ∙ sym promise
 
-  pub mark-free : (q : Refusal) → r ≡ Number·case.Refused q → mark_of (note_of m) k ≡ free
-  mark-free q e = stands-free (mark_of (note_of m) k) (refusal_number q) (stood ∙ ap number e)
+  pub mark-free : (q : Refusal) → r ≡ Err q → mark_of (note_of m) k ≡ free
+  mark-free q e = stands-free (mark_of (note_of m) k) (refusal_number q) (stood ∙ ap outcome e)
 
-  pub mark-live : (p : ℕ) → r ≡ Number·case.Is p → mark_of (note_of m) k ≡ at p
-  mark-live p e = stands_live (mark_of (note_of m) k) p (stood ∙ ap number e)
+  pub mark-live : (p : ℕ) → r ≡ Ok p → mark_of (note_of m) k ≡ at p
+  mark-live p e = stands_live (mark_of (note_of m) k) p (stood ∙ ap outcome e)
 
 -- the row of a live mark, from its place and its line
 module _ (m : List ℕ) (ok : well_formed m ≡ true) (k : ℕ) where

@@ -1,4 +1,5 @@
 -- The places of the live marks turned into lines: no place is past the end, so that well-formed memory refuses none.
+use Rattle.std.specs.Prelude.{Ok, Err}
 use mathlib.Core.Path.{◌≡◌, refl, sym, ap, subst, ◌∙◌}
 use mathlib.Core.Bool.{Bool, true, false}
 use mathlib.Core.List.{List, [], ◌∷◌, ◌++◌}
@@ -14,11 +15,8 @@ use Rattle.plain.proofs.Logic.{or-none}
 use Rattle.plain.proofs.Outcome.{clash}
 use Rattle.plain_note.specs.Note.{Note, Mark, Mark.free, Mark.at, most_by, place_by}
 use Rattle.plain_calls.specs.Fits.{Placed}
-use Rattle.answer.specs.Answers.{refusal_number, verdict}
+use Rattle.answer.specs.Answers.{refusal_number, Answer, outcome}
 use Rattle.answer.specs.declared.Refusal.{Refusal}
-use Rattle.answer.specs.declared.Number.TheVariants as Number·case
-use Rattle.answer.specs.declared.Verdict.{Verdict}
-use Rattle.answer.specs.declared.Verdict.TheVariants as Verdict·case
 use Rattle.pool.specs.Calls.{Wrote}
 use Rattle.memory.specs.Formed.{well_formed, note_of, of_note}
 use Rattle.memory.proofs.Formed.{note-called, note-refused}
@@ -39,7 +37,7 @@ turned : (N : Note) → any_past (length N.text) (places N.marks) ≡ false → 
 unfolding most_by place_by count_at
 turned N e = all_done Chars Lines N (places N.marks) e
 
-module _ (m o o₁ : List ℕ) (n : ℕ) (put : Laid 0 (places (note_of m).marks) o n o₁) (v : Verdict) (ls : List ℕ) (w : Wrote (of_note m (converted_all Chars Lines (take n o₁))) (take n o₁) v ls) where
+module _ (m o o₁ : List ℕ) (n : ℕ) (put : Laid 0 (places (note_of m).marks) o n o₁) (v : Answer (Unit {0})) (ls : List ℕ) (w : Wrote (of_note m (converted_all Chars Lines (take n o₁))) (take n o₁) v ls) where
   abbrev N : Note
   N = note_of m
 
@@ -52,11 +50,11 @@ module _ (m o o₁ : List ℕ) (n : ℕ) (put : Laid 0 (places (note_of m).marks
   not-called bad = note-refused m (converted_all Chars Lines (take n o₁)) bad
 
   -- refused, where the memory is not well formed
-  module _ (q : Refusal) (e : v ≡ Verdict·case.Refused q) where
+  module _ (q : Refusal) (e : v ≡ Err q) where
     said : ◌≡◌ {A = Outcome (Unit {0})} (refused (refusal_number q)) (mapped (λ t. tt) (of_note m (converted_all Chars Lines (take n o₁))))
-    said = sym (ap verdict e) ∙ w.answered
+    said = sym (ap outcome e) ∙ w.answered
 
-    pub lined-refused : (out : List ℕ) → Lined m (Number·case.Refused q) out
+    pub lined-refused : (out : List ℕ) → Lined m (Err q) out
     lined-refused out = (go (well_formed m) refl, λ ok. no ok)
       where
         no : {X : Type 0} → well_formed m ≡ true → X
@@ -70,13 +68,13 @@ module _ (m o o₁ : List ℕ) (n : ℕ) (put : Laid 0 (places (note_of m).marks
             ap (λ (i : ℕ). refused i) y ∙ sym (note-refused m (λ N. value (length (mark_lines N))) bad)
 
   -- accepted, where it is
-  pub lined-done : v ≡ Verdict·case.Accepted → Lined m (Number·case.Is n) (ls ++ drop n o₁)
+  pub lined-done : v ≡ (Ok tt) → Lined m (Ok n) (ls ++ drop n o₁)
   lined-done e = go (well_formed m) refl
     where
       said : ◌≡◌ {A = Outcome (Unit {0})} (value tt) (mapped (λ t. tt) (of_note m (converted_all Chars Lines (take n o₁))))
-      said = sym (ap verdict e) ∙ w.answered
+      said = sym (ap outcome e) ∙ w.answered
 
-      go : (t : Bool) → well_formed m ≡ t → Lined m (Number·case.Is n) (ls ++ drop n o₁)
+      go : (t : Bool) → well_formed m ≡ t → Lined m (Ok n) (ls ++ drop n o₁)
       go true ok =
           let all : ls ≡ mark_lines N = w.memory ∙ ap (kept (take n o₁)) (called ok) in
           let long : n ≡ length (mark_lines N) = omega (arith, put.0, length-map (places N.marks) (line_at N.text)) in (
@@ -86,7 +84,7 @@ module _ (m o o₁ : List ℕ) (n : ℕ) (put : Laid 0 (places (note_of m).marks
       go false bad = clash 2 tt (sym (said ∙ ap (mapped (λ t. tt)) (not-called bad)))
 
 -- so many stand there
-pub lined-fits : (m out : List ℕ) (n : ℕ) → Lined m (Number·case.Is n) out → (well_formed m ≡ true) × (n ≤ length out) × (take n out ≡ mark_lines (note_of m))
+pub lined-fits : (m out : List ℕ) (n : ℕ) → Lined m (Ok n) out → (well_formed m ≡ true) × (n ≤ length out) × (take n out ≡ mark_lines (note_of m))
 lined-fits m out n l = go (well_formed m) refl
   where
     go : (t : Bool) → well_formed m ≡ t → (well_formed m ≡ true) × (n ≤ length out) × (take n out ≡ mark_lines (note_of m))
@@ -97,7 +95,7 @@ lined-fits m out n l = go (well_formed m) refl
         (ok, omega (arith, ap length is, length-take n out, z), is)
     go false bad = clash 2 n (sym (l.0 ∙ note-refused m (λ N. value (length (mark_lines N))) bad))
 
-pub lined-not : (m out : List ℕ) (q : Refusal) → Lined m (Number·case.Refused q) out → well_formed m ≡ false
+pub lined-not : (m out : List ℕ) (q : Refusal) → Lined m (Err q) out → well_formed m ≡ false
 lined-not m out q l = go (well_formed m) refl
   where
     go : (t : Bool) → well_formed m ≡ t → well_formed m ≡ false

@@ -1,10 +1,9 @@
 -- The places and the lines of the live marks, by number.
+use Rattle.answer.specs.Answers.{Answer, outcome}
 use Rattle.std.specs.Prelude.{◌≡◌, true, List, [], ◌∷◌, ◌++◌, map, ℕ, length, take, drop}
 use Rattle.plain.specs.Count.{line_at}
 use Rattle.plain.specs.Outcome.{Outcome.value}
 use Rattle.plain_note.specs.Note.{Note, Mark, Mark.free, Mark.at}
-use Rattle.answer.specs.Answers.{number}
-use Rattle.answer.specs.declared.Number.{Number}
 use Rattle.memory.specs.Formed.{well_formed, note_of, of_note}
 
 -- the place of a mark, and the places of many: a free one has none
@@ -24,9 +23,9 @@ abbrev pub mark_lines : Note → List ℕ
 mark_lines N = lines_of N.text N.marks
 
 -- how many lines are told, and that they stand in front; 2 where the memory is not well formed
-abbrev pub Lined : List ℕ → Number → List ℕ → Type 0
+abbrev pub Lined : List ℕ → Answer ℕ → List ℕ → Type 0
 Lined m r out =
-    (number r ≡ of_note m (λ N. value (length (mark_lines N)))) × (well_formed m ≡ true → take (length (mark_lines (note_of m))) out ≡ mark_lines (note_of m))
+    (outcome r ≡ of_note m (λ N. value (length (mark_lines N)))) × (well_formed m ≡ true → take (length (mark_lines (note_of m))) out ≡ mark_lines (note_of m))
 
 -- from the j-th on, the lines are those of the marks from k on
 abbrev pub Due : Note → ℕ → ℕ → List ℕ → Type 0

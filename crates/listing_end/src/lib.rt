@@ -12,7 +12,7 @@ ghost use Rattle.listing_lines.specs.Puts.{Laid};
 ghost use Rattle.listing_end.specs.Ends.{Ends};
 ghost use Rattle.listing_end.specs.MarkLines.{place_row, places, mark_lines, Lined, Due};
 
-use answer::{Number, Verdict};
+use answer::Answer;
 use listing_lines::{has_room, put_mark, put_totals};
 use marks::standing_at;
 use note_counts::{Count, convert_all};
@@ -30,12 +30,6 @@ struct Rows {
     count: usize,
 }
 
-fn wide(x: u32) -> u64
-    ensures { (result ≡ x) × (result < 4294967296) }
-{
-    x as u64
-}
-
 // ── the lines of the marks ──
 
 // The place of mark k put behind the first n numbers, where it is live.
@@ -43,7 +37,7 @@ fn put_place(m: &[u8], k: usize, out: &mut [usize], n: usize) -> usize
     requires { n < length out.old }
     ensures { (result ≤ n + 1) × Laid n (place_row (mark_of (note_of m.now) k)) out.old result out.new }
 {
-    let Number::Is(p) = standing_at(m, k) else {
+    let Ok(p) = standing_at(m, k) else {
         return n;
     };
     out[n] = p;
@@ -55,25 +49,21 @@ fn put_places(m: &[u8], out: &mut [usize]) -> usize
     requires { 256 ≤ length out.old }
     ensures { (result ≤ 256) × Laid 0 (places (note_of m.now).marks) out.old result out.new }
 {
-    let mut k = 0;
-    let mut n: usize = 0;
-    while k < MARKS {
-        n = put_place(m, k, out, n);
-        k += 1;
+    let mut n = 0;
+    for mark in 0..MARKS {
+        n = put_place(m, mark, out, n);
     }
     n
 }
 
 // Their lines, and how many they are: refused by 2 where the memory is not well formed.
-fn put_lines(m: &[u8], out: &mut [usize]) -> Number
+fn put_lines(m: &[u8], out: &mut [usize]) -> Answer<usize>
     requires { 256 ≤ length out.old }
     ensures { Lined m.now result out.new }
 {
     let n = put_places(m, out);
-    match convert_all(m, Count::Chars, Count::Lines, &mut out[..n]) {
-        Verdict::Refused(r) => Number::Refused(r),
-        Verdict::Accepted => Number::Is(n),
-    }
+    convert_all(m, Count::Chars, Count::Lines, &mut out[..n])?;
+    Ok(n)
 }
 
 // ── the output ──
@@ -83,10 +73,10 @@ fn put_counts(info: TextInfo, out: &mut [u8], at: usize) -> usize
     requires { at + 110 ≤ length out.old }
     ensures { (result ≤ at + 110) × Laid at (totals_line (most_in Bytes info) (most_in Chars info) (most_in Units info) (most_in Lines info)) out.old result out.new }
 {
-    let bytes = wide(info.bytes);
-    let chars = wide(info.chars);
-    let units = chars + wide(info.utf16_surrogates);
-    let lines = wide(info.line_breaks) + 1;
+    let bytes = u64::from(info.bytes);
+    let chars = u64::from(info.chars);
+    let units = chars + u64::from(info.utf16_surrogates);
+    let lines = u64::from(info.line_breaks) + 1;
     put_totals(out, at, bytes, chars, units, lines)
 }
 
@@ -95,7 +85,7 @@ fn put_row(m: &[u8], lines: &[usize], k: usize, out: &mut [u8], put: Rows) -> Ro
     requires { (k < 256) × Due (note_of m.now) k put.count lines.now × (put.end + 80 ≤ length out.old) }
     ensures { (result.end ≤ put.end + 80) × Due (note_of m.now) (k + 1) result.count lines.now × Laid put.end (mark_row (note_of m.now).text k (mark_of (note_of m.now) k)) out.old result.end out.new }
 {
-    let Number::Is(p) = standing_at(m, k) else {
+    let Ok(p) = standing_at(m, k) else {
         return put;
     };
     let j = put.count;
@@ -107,11 +97,9 @@ fn put_rows(m: &[u8], lines: &[usize], out: &mut [u8], at: usize) -> usize
     requires { (lines.now ≡ mark_lines (note_of m.now)) × (at + 20480 ≤ length out.old) }
     ensures { (result ≤ at + 20480) × Laid at (mark_rows (note_of m.now).text 0 (note_of m.now).marks) out.old result out.new }
 {
-    let mut k: usize = 0;
     let mut put = Rows { end: at, count: 0 };
-    while k < MARKS {
+    for k in 0..MARKS {
         put = put_row(m, lines, k, out, put);
-        k += 1;
     }
     put.end
 }
@@ -136,7 +124,7 @@ pub fn put_ending(m: &[u8], out: &mut [u8], at: usize) -> usize
         return at;
     }
     let mut lines = [0usize; 256];
-    let Number::Is(n) = put_lines(m, &mut lines) else {
+    let Ok(n) = put_lines(m, &mut lines) else {
         return at;
     };
     whole_ending(m, &lines[..n], out, at)

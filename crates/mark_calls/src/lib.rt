@@ -3,7 +3,7 @@
 #![tactic(auto)]
 
 ghost use Rattle.std.specs.Prelude.{◌≡◌};
-ghost use Rattle.answer.specs.Answers.{number, verdict};
+ghost use Rattle.answer.specs.Answers.{outcome};
 ghost use Rattle.plain_calls.specs.Marks.{standing, line_beside};
 ghost use Rattle.plain_calls.specs.Calls.{setting, dropping};
 ghost use Rattle.note_head.specs.Writes.{live_put};
@@ -11,61 +11,57 @@ ghost use Rattle.memory.specs.Formed.{of_note};
 ghost use Rattle.marks.specs.MarkBytes.{mark_put};
 ghost use Rattle.note_promise.specs.Called.{MarkCalled};
 
-use answer::{Number, Refusal, Verdict};
+use answer::{Answer, Refusal};
 use marks::{lowest_free, set_at, standing_at};
 use note_head::{MARKS, chars_of, set_mark_live};
 
 // A mark at a place: it takes the lowest free number.
-pub fn set_mark(m: &mut [u8], p: usize) -> Number
-    ensures { MarkCalled (λ N. setting N p) (λ k. mark_put m.old k p) m.old (number result) m.new }
+pub fn set_mark(m: &mut [u8], p: usize) -> Answer<usize>
+    ensures { MarkCalled (λ N. setting N p) (λ k. mark_put m.old k p) m.old (outcome result) m.new }
 {
     if !memory::check(m) {
-        return Number::Refused(Refusal::Memory);
+        return Err(Refusal::Memory);
     }
     if chars_of(m) < p {
-        return Number::Refused(Refusal::Place);
+        return Err(Refusal::Place);
     }
     let k = lowest_free(m);
     if MARKS <= k {
-        return Number::Refused(Refusal::Marks);
+        return Err(Refusal::Marks);
     }
-    match set_at(m, k, p as u32) {
-        Verdict::Refused(r) => Number::Refused(r),
-        Verdict::Accepted => Number::Is(k),
-    }
+    set_at(m, k, p as u32)?;
+    Ok(k)
 }
 
 // Mark k is free again.
-pub fn drop_mark(m: &mut [u8], k: usize) -> Verdict
-    ensures { MarkCalled (λ N. dropping N k) (λ u. live_put m.old k 0) m.old (verdict result) m.new }
+pub fn drop_mark(m: &mut [u8], k: usize) -> Answer<()>
+    ensures { MarkCalled (λ N. dropping N k) (λ u. live_put m.old k 0) m.old (outcome result) m.new }
 {
     if !memory::check(m) {
-        return Verdict::Refused(Refusal::Memory);
+        return Err(Refusal::Memory);
     }
-    match standing_at(m, k) {
-        Number::Refused(r) => Verdict::Refused(r),
-        Number::Is(_) => set_mark_live(m, k, 0),
-    }
+    standing_at(m, k)?;
+    set_mark_live(m, k, 0)
 }
 
 // Where mark k stands.
-pub fn mark_place(m: &[u8], k: usize) -> Number
-    ensures { number result ≡ of_note m.now (λ N. standing N k) }
+pub fn mark_place(m: &[u8], k: usize) -> Answer<usize>
+    ensures { outcome result ≡ of_note m.now (λ N. standing N k) }
 {
     if !memory::check(m) {
-        return Number::Refused(Refusal::Memory);
+        return Err(Refusal::Memory);
     }
     standing_at(m, k)
 }
 
 // The line beside mark k.
-pub fn mark_line(m: &[u8], k: usize) -> Number
-    ensures { number result ≡ of_note m.now (λ N. line_beside N k) }
+pub fn mark_line(m: &[u8], k: usize) -> Answer<usize>
+    ensures { outcome result ≡ of_note m.now (λ N. line_beside N k) }
 {
     let place = standing_at(m, k);
-    let Number::Is(p) = place else {
+    let Ok(p) = place else {
         if !memory::check(m) {
-            return Number::Refused(Refusal::Memory);
+            return Err(Refusal::Memory);
         }
         return place;
     };

@@ -1,4 +1,6 @@
 -- What the tests of the code decide: whether a mark is live, and what refuses a call.
+use Rattle.answer.specs.Answers.{Answer, outcome}
+use Rattle.std.specs.Prelude.{Err}
 use Rattle.std.proofs.Common.{◌≡◌, ℕ, suc, ◌%◌, ◌^◌, ◌<◌, ◌≤◌, Bool, cond, not, ◌||◌, eqb, leb, List, length, refl, ap, ◌∙◌, arith, le-ltb, lt-ltb, eq-eqb, ne_eqb, le-leb}
 use borrow.Author.Tests.{lt-leb}
 use Rattle.plain_note.specs.Note.{head_size}
@@ -7,11 +9,8 @@ use Rattle.plain.proofs.Logic.{or_left, or_right}
 use Rattle.plain.proofs.Outcome.{one-applies, one-passed}
 use Rattle.plain_calls.specs.Marks.{lowest, moved_to, raised}
 use Rattle.note_head.specs.Head.{edit_of, live_at, place_at, mark_at, marks_from}
-use Rattle.answer.specs.Answers.{verdict}
 use Rattle.answer.specs.declared.Refusal.{Refusal}
-use Rattle.answer.specs.declared.Verdict.{Verdict}
-use Rattle.answer.specs.declared.Verdict.TheVariants as Verdict·case
-use Rattle.answer.proofs.Opened.{verdict-never}
+use Rattle.answer.proofs.Opened.{never-refused}
 use Rattle.pool.specs.Calls.{Wrote}
 use Rattle.pool.proofs.Rules.{wrote-done}
 use Rattle.pool.proofs.Opened.{wrote-never}
@@ -59,7 +58,7 @@ module _ (f : ℕ → ℕ) (m : List ℕ) (k : ℕ) where
 
 -- a mark set: its place, and then that it is live
 module _ (m : List ℕ) (h : head_size ≤ length m) (k : ℕ) (l : k < 256) (q : ℕ) where
-  pub set-wrote : (x : List ℕ) → length x ≡ length m → x ≡ place_put m k q → (r : Verdict) (after : List ℕ) → Wrote (live_set x k 1) x r after → Wrote (mark_set m k q) m r after
+  pub set-wrote : (x : List ℕ) → length x ≡ length m → x ≡ place_put m k q → (r : Answer (Unit {0})) (after : List ℕ) → Wrote (live_set x k 1) x r after → Wrote (mark_set m k q) m r after
   unfolding mark_set live_set
   set-wrote x e p r after w =
       let g : head_size ≤ length x = omega arith in
@@ -67,18 +66,18 @@ module _ (m : List ℕ) (h : head_size ≤ length m) (k : ℕ) (l : k < 256) (q 
       (w.answered ∙ ap (mapped (λ t. tt)) (mark-it x k (live_put x k 1) g l))
       (live-there x g k l 1 r after w ∙ ap (λ (y : List ℕ). live_put y k 1) p)
 
-  pub place-accepted : (r : Verdict) (after : List ℕ) → Wrote (place_set m k q) m r after → verdict r ≡ value tt
+  pub place-accepted : (r : Answer (Unit {0})) (after : List ℕ) → Wrote (place_set m k q) m r after → outcome r ≡ value tt
   unfolding place_set
   place-accepted r after w = w.answered ∙ ap (mapped (λ t. tt)) (mark-it m k (place_put m k q) h l)
 
-  pub place-never : {X : Type 0} (r : Verdict) (after : List ℕ) → Wrote (place_set m k q) m r after → (p : Refusal) → r ≡ Verdict·case.Refused p → X
-  place-never r after w p f = verdict-never p r (place-accepted r after w) f
+  pub place-never : {X : Type 0} (r : Answer (Unit {0})) (after : List ℕ) → Wrote (place_set m k q) m r after → (p : Refusal) → r ≡ Err p → X
+  place-never r after w p f = never-refused p r tt (place-accepted r after w) f
 
-  pub set-never : {X : Type 0} (r : Verdict) (after : List ℕ) → Wrote (mark_set m k q) m r after → (p : Refusal) → r ≡ Verdict·case.Refused p → X
+  pub set-never : {X : Type 0} (r : Answer (Unit {0})) (after : List ℕ) → Wrote (mark_set m k q) m r after → (p : Refusal) → r ≡ Err p → X
   unfolding mark_set
   set-never r after w p f = wrote-never _ m r after w _ (mark-it m k (mark_put m k q) h l) p f
 
-  pub set_there : (r : Verdict) (after : List ℕ) → Wrote (mark_set m k q) m r after → after ≡ mark_put m k q
+  pub set_there : (r : Answer (Unit {0})) (after : List ℕ) → Wrote (mark_set m k q) m r after → after ≡ mark_put m k q
   unfolding mark_set
   set_there r after w = w.memory ∙ ap (λ (o : Outcome (List ℕ)). kept m o) (mark-it m k (mark_put m k q) h l)
 
@@ -93,7 +92,7 @@ module _ (m : List ℕ) (s e new : ℕ) where
   follow-it h = one-passed 2 (past head_size (length m)) (edited_put m s e new) (le-ltb (length m) head_size h)
 
   pub follow-wrote : head_size ≤ length m → (x : List ℕ) → length x ≡ length m → x ≡ marks_moved (moved_to s e new) m 256 → (v : ℕ) → v ≡ raised (edit_of m)
-      → (r : Verdict) (after : List ℕ) → Wrote (number_set x 4 v) x r after → Wrote (edited m s e new) m r after
+      → (r : Answer (Unit {0})) (after : List ℕ) → Wrote (number_set x 4 v) x r after → Wrote (edited m s e new) m r after
   follow-wrote h x l p v z r after w =
       let g : head_size ≤ length x = omega arith in
       wrote-done _ m r _ after (follow-it h)

@@ -1,4 +1,5 @@
 -- The tests of the check's small parts: the least size of a root, a mark, and the head as a whole.
+use Rattle.std.specs.Prelude.{Option}
 use mathlib.Core.Path.{◌≡◌, refl, sym, ap, subst, ◌∙◌}
 use mathlib.Core.Bool.{Bool, true, false}
 use mathlib.Core.List.{List}
@@ -57,7 +58,7 @@ module _ (m : List ℕ) (n : ℕ) (sum : TextSum) (root : Kid) (is : root ≡ ro
   head-marks e h r q = rw (told-root true e, le-leb sum.bytes (limit n) h) q
 
 -- the tree from the root on, by what the head says of the root
-pub root-met : (m seen later : List ℕ) (r : Met) (root : Kid) (h l s : ℕ) → root ≡ root_of m → h ≡ height_of m → l ≡ least_root h → s ≡ root.slot → NodeMet m seen later l h s r → RootMet m seen later r
+pub root-met : (m seen later : List ℕ) (r : Option Met) (root : Kid) (h l s : ℕ) → root ≡ root_of m → h ≡ height_of m → l ≡ least_root h → s ≡ root.slot → NodeMet m seen later l h s r → RootMet m seen later r
 root-met m seen later r root h l s er eh el es p =
     subst (λ (x : ℕ). NodeMet m seen later (least_root x) x (root_of m).slot r) eh
     (subst (λ (x : ℕ). NodeMet m seen later x h (root_of m).slot r) el (subst (λ (x : ℕ). NodeMet m seen later l h x r) (es ∙ ap (λ (k : Kid). k.slot) er) p))

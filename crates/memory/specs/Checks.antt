@@ -1,5 +1,5 @@
 -- What the parts of the check promise, over the note's own memory m and the marks of the slots that were met.
-use Rattle.std.specs.Prelude.{◌≡◌, Bool, true, false, ◌&&◌, ◌||◌, List, ℕ, zero, suc, ◌+◌, ◌≤◌, ◌<◌, eqb, leb, length, set, get_or}
+use Rattle.std.specs.Prelude.{Option, Some, None, ◌≡◌, Bool, true, false, ◌&&◌, ◌||◌, List, ℕ, zero, suc, ◌+◌, ◌≤◌, ◌<◌, eqb, leb, length, set, get_or}
 use Rattle.plain_note.specs.Note.{need, limit}
 use Rattle.text_info.specs.declared.TextSum.{TextSum}
 use Rattle.pool.specs.Slot.{kind_of, next_of}
@@ -8,8 +8,6 @@ use Rattle.tree_check.specs.Met.{mark, NodeMet}
 use Rattle.tree_check.specs.declared.Met.{Met}
 use Rattle.note_head.specs.Head.{n_of, root_of, height_of, free_of, live_at, place_at}
 use Rattle.memory.specs.Formed.{all_below, frees, chained, in_free, tree_right, slots_right, size_right, marks_right}
-use Rattle.memory.specs.declared.Step.{Step}
-use Rattle.memory.specs.declared.Step.TheVariants as Step·case
 
 -- all clauses but the first, which is of the need
 unfoldable pub own_right : List ℕ → Bool
@@ -31,9 +29,9 @@ pub record Took (m seen later : List ℕ) (s next : ℕ) : Type 0 where
   pub on : next ≡ next_of m s
   pub marked : later ≡ set seen s 1
 
-abbrev pub Stepped : List ℕ → List ℕ → List ℕ → ℕ → Step → Type 0
-Stepped m seen later s (Step·case.To next) = Took m seen later s next
-Stepped m seen later s Step·case.Bad = s < length seen → kind_of m s ≡ 0 → mark seen s ≡ 0 → ⊥
+abbrev pub Stepped : List ℕ → List ℕ → List ℕ → ℕ → Option ℕ → Type 0
+Stepped m seen later s (Some next) = Took m seen later s next
+Stepped m seen later s None = s < length seen → kind_of m s ≡ 0 → mark seen s ≡ 0 → ⊥
 
 -- k steps along free slots that lie in a row from s on
 abbrev pub Row : List ℕ → List ℕ → List ℕ → ℕ → ℕ → Type 0
@@ -61,7 +59,7 @@ Sorted m seen true = (chained m (n_of m) (n_of m) (free_of m) ≡ true) × Each 
 Sorted m seen false = chained m (n_of m) (n_of m) (free_of m) ≡ true → Each m (n_of m) seen → ⊥
 
 -- the tree from the root on
-abbrev pub RootMet : List ℕ → List ℕ → List ℕ → Met → Type 0
+abbrev pub RootMet : List ℕ → List ℕ → List ℕ → Option Met → Type 0
 RootMet m seen later r = NodeMet m seen later (least_root (height_of m)) (height_of m) (root_of m).slot r
 
 -- the head's part for a note of these counts: the counts that the root stores, the size of n slots, and the marks

@@ -30,13 +30,6 @@ const MAX_HEIGHT: u8 = 5;
 // The least children of a root that is a list.
 const MIN_ROOT_CHILDREN: usize = 2;
 
-// A step along the free slots: the next one, or none where the slot is not free or was met before.
-#[derive(Clone, Copy)]
-enum Step {
-    To(usize),
-    Bad,
-}
-
 // ── marks ──
 
 // Whether mark k is free, or live at a place of a note of so many chars.
@@ -63,12 +56,9 @@ fn run_free(m: &[u8], k: usize) -> bool
     requires { k + 8 ≤ 256 }
     ensures { result ≡ true → (j : ℕ) → k ≤ j → j < k + 8 → live_at m.now j ≡ 0 }
 {
-    let e = k + RUN;
     let mut free = true;
-    let mut j = k;
-    while j < e {
+    for j in k..k + RUN {
         free = free & (mark_live(m, j) == 0);
-        j += 1;
     }
     free
 }
@@ -81,13 +71,10 @@ fn run_right(m: &[u8], k: usize, chars: u64) -> bool
     if run_free(m, k) {
         return true;
     }
-    let e = k + RUN;
-    let mut j = k;
-    while j < e {
+    for j in k..k + RUN {
         if !mark_right(m, j, chars) {
             return false;
         }
-        j += 1;
     }
     true
 }
@@ -95,30 +82,32 @@ fn run_right(m: &[u8], k: usize, chars: u64) -> bool
 fn marks_right(m: &[u8], chars: u64) -> bool
     ensures { result ≡ all_below 256 (mark_right m.now chars) }
 {
-    let mut i: usize = 0;
-    while i < RUNS {
+    for i in 0..RUNS {
         if !run_right(m, RUN * i, chars) {
             return false;
         }
-        i += 1;
     }
     true
 }
 
 // ── slots ──
 
-fn take_free(m: &[u8], seen: &mut [u8], slot: usize) -> Step
+// A step along the free slots: the next one, or none where the slot is not free or was met before.
+fn take_free(m: &[u8], seen: &mut [u8], slot: usize) -> Option<usize>
     requires { length m.now ≡ need (length seen.old) }
     ensures { Stepped m.now seen.old seen.new slot result }
 {
-    let Head::Free(next) = head_of(m, slot) else {
-        return Step::Bad;
+    let Ok(held) = head_of(m, slot) else {
+        return None;
+    };
+    let Head::Free(next) = held else {
+        return None;
     };
     if seen[slot] != 0 {
-        return Step::Bad;
+        return None;
     }
     seen[slot] = 1;
-    Step::To(next)
+    Some(next)
 }
 
 // Whether a slot is free, was not met, and names the one behind it as the next.
@@ -126,7 +115,10 @@ fn in_row(m: &[u8], seen: &[u8], at: usize) -> bool
     requires { length m.now ≡ need (length seen.now) }
     ensures { result ≡ true → Took m.now seen.now (set seen.now at 1) at (at + 1) }
 {
-    let Head::Free(next) = head_of(m, at) else {
+    let Ok(head) = head_of(m, at) else {
+        return false;
+    };
+    let Head::Free(next) = head else {
         return false;
     };
     if seen[at] != 0 {
@@ -141,28 +133,20 @@ fn take_row(m: &[u8], seen: &mut [u8], first: usize, most: usize) -> usize
     requires { (length m.now ≡ need (length seen.old)) × (most ≤ length seen.old - first) }
     ensures { (result ≤ most) × Row m.now seen.old seen.new first result }
 {
-    let mut k = 0;
-    while k < most {
+    for k in 0..most {
         if !in_row(m, seen, first + k) {
             return k;
         }
         seen[first + k] = 1;
-        k += 1;
     }
-    k
+    most
 }
 
 // How long a row is at most: to the last of n slots, and no longer than there are steps left.
 fn row_most(first: usize, left: usize, n: usize) -> usize
     ensures { (result ≤ left) × (result ≤ n - first) }
 {
-    if n <= first {
-        return 0;
-    }
-    if n - first < left {
-        return n - first;
-    }
-    left
+    n.saturating_sub(first).min(left)
 }
 
 // Marks the free slots, from the first one on. Each of them is met once at most, so there are no more steps than slots.
@@ -177,7 +161,7 @@ fn walk(m: &[u8], seen: &mut [u8], first: usize) -> bool
         if at == n {
             return true;
         }
-        let Step::To(next) = take_free(m, seen, at) else {
+        let Some(next) = take_free(m, seen, at) else {
             return false;
         };
         left -= 1;
@@ -193,10 +177,8 @@ fn all_met(seen: &[u8]) -> bool
     ensures { result ≡ all_below (length seen.now) (met seen.now) }
 {
     let mut all = true;
-    let mut x: usize = 0;
-    while x < seen.len() {
-        all = all & (seen[x] != 0);
-        x += 1;
+    for x in seen {
+        all = all & (*x != 0);
     }
     all
 }
@@ -224,7 +206,7 @@ fn least_root(height: u8) -> usize
 }
 
 // The tree from the root on.
-fn check_root(m: &[u8], seen: &mut [u8]) -> Met
+fn check_root(m: &[u8], seen: &mut [u8]) -> Option<Met>
     ensures { RootMet m.now seen.old seen.new result }
 {
     let root = note_head::root(m);
@@ -255,10 +237,10 @@ fn check_with(m: &[u8], seen: &mut [u8]) -> bool
     requires { Ready m.now seen.old }
     ensures { result ≡ own_right m.now }
 {
-    let Met::Fine(sum, _, _) = check_root(m, seen) else {
+    let Some(met) = check_root(m, seen) else {
         return false;
     };
-    if !head_right(m, seen.len(), sum) {
+    if !head_right(m, seen.len(), met.sum) {
         return false;
     }
     slots_right(m, seen)

@@ -1,4 +1,5 @@
 -- Two neighbours that may be joined pass what is asked before: the call joins them. No call needs it; the law of the step does.
+use Rattle.std.specs.Prelude.{Ok}
 use mathlib.Core.Path.{◌≡◌, refl, sym, ap, ◌∙◌}
 use mathlib.Core.Bool.{Bool, true, false, not, ◌&&◌, ◌||◌, cond}
 use mathlib.Core.List.{List, [], ◌∷◌}
@@ -10,7 +11,6 @@ use borrow.Author.Tests.{ne_eqb, lt-ltb}
 use Rattle.plain.specs.Outcome.{Outcome.value, mapped}
 use Rattle.plain.proofs.Logic.{or-none, and_none}
 use Rattle.plain.proofs.Outcome.{rule-passed, one-passed}
-use Rattle.answer.specs.declared.Truth.TheVariants as Truth·case
 use Rattle.pool.specs.declared.Kid.{Kid}
 use Rattle.pool.specs.Slot.{len_of, no_kid}
 use Rattle.node_children.specs.Kids.{kids, list_of}
@@ -97,7 +97,7 @@ module _ (m : List ℕ) (p i : ℕ) (x y : Kid) (list : is_list m p ≡ true) (a
 
   -- THEOREM: where the two are joined, the call joins them
   pub merging-is : (q : Bool) (l : List ℕ) → joined m x.slot y.slot ≡ value (q, l)
-      → Joined (merging m p i (i + 1)) m (Truth·case.Is q) (settled_memory p (children_of m p) i (i + 1) q l)
+      → Joined (merging m p i (i + 1)) m (Ok q) (settled_memory p (children_of m p) i (i + 1) q l)
   merging-is q l e =
       let ks = children_of m p in
       let o : merged m p ks i (i + 1) ≡ value (q, settled_memory p ks i (i + 1) q l) =
@@ -105,6 +105,6 @@ module _ (m : List ℕ) (p i : ℕ) (x y : Kid) (list : is_list m p ≡ true) (a
       ∙ ap (λ (k : Kid). mapped (settled p ks i (i + 1)) (joined m x.slot k.slot)) is_y
       ∙ ap (mapped (settled p ks i (i + 1))) e in
       let k : kids (list_of ks) ≡ ks = kids-of ks in
-      merging-done m p i (i + 1) (sym asked) (list_of ks) refl (Truth·case.Is q) (settled_memory p ks i (i + 1) q l)
-      (joined-done (merged m p (kids (list_of ks)) i (i + 1)) m (Truth·case.Is q) (settled_memory p ks i (i + 1) q l) q (settled_memory p ks i (i + 1) q l)
+      merging-done m p i (i + 1) (sym asked) (list_of ks) refl (Ok q) (settled_memory p ks i (i + 1) q l)
+      (joined-done (merged m p (kids (list_of ks)) i (i + 1)) m (Ok q) (settled_memory p ks i (i + 1) q l) q (settled_memory p ks i (i + 1) q l)
       (ap (λ (z : List Kid). merged m p z i (i + 1)) k ∙ o) refl refl)

@@ -1,5 +1,6 @@
 -- THEOREM of `mend`: where two neighbours in a list may be joined, the step is accepted, and what it made of the list is as good as any node, or good
 -- but for its size. It spends no free slot.
+use Rattle.std.specs.Prelude.{Ok}
 use mathlib.Core.Path.{◌≡◌, refl, sym, ap, subst, ◌∙◌}
 use mathlib.Core.Bool.{Bool, true, false}
 use mathlib.Core.List.{List, [], ◌∷◌, ◌++◌}
@@ -8,7 +9,6 @@ use native.Mathlib.Omega.{arith}
 use lib.ListN.{length, get_or, length-append}
 use lib.Seq.{get_or_at, append_snoc}
 use Rattle.plain.specs.Outcome.{Outcome, Outcome.value, kept}
-use Rattle.answer.specs.declared.Truth.TheVariants as Truth·case
 use Rattle.text_info.specs.declared.TextInfo.{TextInfo}
 use Rattle.pool.specs.declared.Kid.{Kid}
 use Rattle.pool.specs.Slot.{len_of, no_kid, Fits}
@@ -109,7 +109,7 @@ module _ (m : List ℕ) (n g p i : ℕ) (pre : List Kid) (x y : Kid) (post : Lis
   mended-is q l e =
       let ks = children_of m p in
       mended-by m p i info (value (list_of ks)) (paired_is m p i r.list (omega (arith, count, at)))
-      ∙ join-value m p (list_of ks) i info (Truth·case.Is q) (done q l)
+      ∙ join-value m p (list_of ks) i info (Ok q) (done q l)
       (merging-is m p i x y r.list (omega (arith, count, at)) is_x is_y (sound-counted m g a r.pair.left (omega (arith, r.pair.short))) (sound-counted m g b r.pair.right (omega (arith, r.pair.short)))
       (not-mixed m g x y r.pair.left r.pair.right) px py (λ z. slots_apart m n g a b r.pair (sym z)) q l e) q refl
       ∙ ap (λ (c : List Kid). value (closed (done q l) q (slot_in c (i + 1)) (list_of ks).len info)) (kids-of ks)

@@ -1,4 +1,5 @@
 -- Two lists joined: from what the calls on a list promise to what the join comes to, and that every child then fits.
+use Rattle.std.specs.Prelude.{Ok, Err}
 use mathlib.Core.Path.{◌≡◌, refl, sym, ap, subst, ◌∙◌}
 use mathlib.Core.Bool.{Bool, true, false, ◌||◌, cond, true≢false}
 use mathlib.Core.List.{List, [], ◌∷◌, ◌++◌}
@@ -11,17 +12,10 @@ use borrow.Author.Tests.{le-leb, lt-leb}
 use Rattle.plain.specs.Outcome.{Outcome, Outcome.value, Outcome.refused, ruled, kept, mapped}
 use Rattle.plain.proofs.Logic.{cut}
 use Rattle.plain.proofs.Outcome.{one-applies, one-passed}
-use Rattle.answer.specs.Answers.{refusal_number, truth, verdict}
+use Rattle.answer.specs.Answers.{refusal_number, Answer, outcome}
 use Rattle.answer.specs.declared.Refusal.{Refusal}
-use Rattle.answer.specs.declared.Truth.{Truth}
-use Rattle.answer.specs.declared.Truth.TheVariants as Truth·case
-use Rattle.answer.specs.declared.Verdict.{Verdict}
-use Rattle.answer.specs.declared.Verdict.TheVariants as Verdict·case
-use Rattle.answer.proofs.Opened.{verdict-never}
+use Rattle.answer.proofs.Opened.{never-refused}
 use Rattle.leaf_bytes.proofs.Opened.{never}
-use Rattle.text_info.specs.Info.{info}
-use Rattle.text_info.specs.declared.Info.{Info}
-use Rattle.text_info.specs.declared.Info.TheVariants as Info·case
 use Rattle.text_info.specs.declared.TextInfo.{TextInfo}
 use Rattle.pool.specs.declared.Kid.{Kid}
 use Rattle.pool.specs.Slot.{len_of, region_of, entries, no_kid, Fits}
@@ -70,39 +64,39 @@ module _ (m : List ℕ) (a : ℕ) (list : is_list m a ≡ true) where
       let n : r.list.len ≡ length (children_of m a) = ap (λ (c : NodeChildren). c.len) is in
       (is, omega (arith, few-children))
 
-  pub load-never : {X : Type 0} (r : Listed) → Listing (loaded m a) (list_of []) r → (q : Refusal) → r.verdict ≡ Verdict·case.Refused q → X
-  load-never {X} r w q e = verdict-never q r.verdict (w.answered ∙ ap (mapped (λ x. tt)) (loaded-is m a list)) e
+  pub load-never : {X : Type 0} (r : Listed) → Listing (loaded m a) (list_of []) r → (q : Refusal) → r.verdict ≡ Err q → X
+  load-never {X} r w q e = never-refused q r.verdict tt (w.answered ∙ ap (mapped (λ x. tt)) (loaded-is m a list)) e
 
 -- ── a list counted and stored ──
 
-module _ (c : NodeChildren) (h : c.len ≤ 16) (i : Info) (p : info i ≡ list_counted c) where
-  pub counted-wide : (q : Refusal) → i ≡ Info·case.Refused q → (too_wide (total_of (kids c)) ≡ true) × (refusal_number q ≡ 2)
-  counted-wide q e = one-refused 2 (too_wide (total_of (kids c))) (narrowed (total_of (kids c))) (refusal_number q) (sym (ap info e) ∙ p ∙ few-counted c h)
+module _ (c : NodeChildren) (h : c.len ≤ 16) (i : Answer TextInfo) (p : outcome i ≡ list_counted c) where
+  pub counted-wide : (q : Refusal) → i ≡ Err q → (too_wide (total_of (kids c)) ≡ true) × (refusal_number q ≡ 2)
+  counted-wide q e = one-refused 2 (too_wide (total_of (kids c))) (narrowed (total_of (kids c))) (refusal_number q) (sym (ap outcome e) ∙ p ∙ few-counted c h)
 
-  pub counted-fits : (x : TextInfo) → i ≡ Info·case.Is x → too_wide (total_of (kids c)) ≡ false
-  counted-fits x e = (list-counted-only c x (sym p ∙ ap info e)).1
+  pub counted-fits : (x : TextInfo) → i ≡ Ok x → too_wide (total_of (kids c)) ≡ false
+  counted-fits x e = (list-counted-only c x (sym p ∙ ap outcome e)).1
 
 -- a list that may be stored is, and its entries fit
-pub list-stored : (m : List ℕ) (a : ℕ) (c : NodeChildren) (v : Verdict) (after : List ℕ) → outside m a ≡ false → c.len ≤ 16
-    → Wrote (stored m a c) m v after × Fitted v c.arr → (verdict v ≡ value tt) × (after ≡ list_put m a c) × Fitting c.arr
-list-stored m a c Verdict·case.Accepted after o h w = (refl, (store-accepted m a c after w.0).2, w.1)
-list-stored m a c (Verdict·case.Refused q) after o h w =
+pub list-stored : (m : List ℕ) (a : ℕ) (c : NodeChildren) (v : Answer (Unit {0})) (after : List ℕ) → outside m a ≡ false → c.len ≤ 16
+    → Wrote (stored m a c) m v after × Fitted v c.arr → (outcome v ≡ value tt) × (after ≡ list_put m a c) × Fitting c.arr
+list-stored m a c (Ok tt) after o h w = (refl, (store-accepted m a c after w.0).2, w.1)
+list-stored m a c (Err q) after o h w =
     absurd (never (refusal_number q) tt (w.0.answered ∙ ap (mapped (λ t. tt)) (stored_is m a c (inside m a o) h)))
 
 -- ── what a call that writes lists comes to ──
 
 module _ {X : Type 0} (wide : Bool) (v : Bool × List ℕ) (m : List ℕ) where
   pub not-put : (q : Refusal) → wide ≡ true → refusal_number q ≡ 2
-      → Joined (ruled ((2, wide) ∷ []) v) m (Truth·case.Refused q) m × ((b : Bool) → truth (Truth·case.Refused q) ≡ value b → X)
+      → Joined (ruled ((2, wide) ∷ []) v) m (Err q) m × ((b : Bool) → outcome (Err q) ≡ value b → X)
   not-put q e f =
-      (joined-not (ruled ((2, wide) ∷ []) v) m (Truth·case.Refused q) m 2 (one-applies 2 wide v e) (ap (λ (n : ℕ). refused n) f) refl, λ b g. absurd (never (refusal_number q) b g))
+      (joined-not (ruled ((2, wide) ∷ []) v) m (Err q) m 2 (one-applies 2 wide v e) (ap (λ (n : ℕ). refused n) f) refl, λ b g. absurd (never (refusal_number q) b g))
 
-  pub is-put : (r : Truth) (w : Verdict) (after : List ℕ) → truth r ≡ mapped (λ t. v.0) (verdict w) → verdict w ≡ value tt → wide ≡ false → after ≡ v.1 → X
-      → Joined (ruled ((2, wide) ∷ []) v) m r after × ((b : Bool) → truth r ≡ value b → X)
+  pub is-put : (r : Answer Bool) (w : Answer (Unit {0})) (after : List ℕ) → outcome r ≡ mapped (λ t. v.0) (outcome w) → outcome w ≡ value tt → wide ≡ false → after ≡ v.1 → X
+      → Joined (ruled ((2, wide) ∷ []) v) m r after × ((b : Bool) → outcome r ≡ value b → X)
   is-put r w after t d e f x = (joined-done (ruled ((2, wide) ∷ []) v) m r after v.0 v.1 (one-passed 2 wide v e) (t ∙ ap (mapped (λ y. v.0)) d) f, λ b g. x)
 
 -- two lists stored one after the other
-pub lists-stored : (m : List ℕ) (a b : ℕ) (c d : NodeChildren) (v w : Verdict) (l after : List ℕ) → outside m a ≡ false → outside m b ≡ false → c.len ≤ 16 → d.len ≤ 16
+pub lists-stored : (m : List ℕ) (a b : ℕ) (c d : NodeChildren) (v w : Answer (Unit {0})) (l after : List ℕ) → outside m a ≡ false → outside m b ≡ false → c.len ≤ 16 → d.len ≤ 16
     → Wrote (stored m a c) m v l × Fitted v c.arr → Wrote (stored l b d) l w after × Fitted w d.arr
     → Wrote (value (list_put (list_put m a c) b d)) m w after × (Fitting c.arr × Fitting d.arr)
 lists-stored m a b c d v w l after o p h k f g =
@@ -142,9 +136,9 @@ module _ (m : List ℕ) (a b : ℕ) where
   two-put : (c d : NodeChildren) (ls rs : List Kid) → c ≡ list_of ls → d ≡ list_of rs → shared m a b ls rs ≡ two_put c d
   two-put c d ls rs e f = rw (is-kids c ls e, is-kids d rs f, e, f)
 
-  module _ (ks : List Kid) (r : Truth) (after : List ℕ) where
+  module _ (ks : List Kid) (r : Answer Bool) (after : List ℕ) where
     abbrev pub Ends : Type 0
-    Ends = Joined (joined_kids m a b ks) m r after × ((q : Bool) → truth r ≡ value q → AllFit ks)
+    Ends = Joined (joined_kids m a b ks) m r after × ((q : Bool) → outcome r ≡ value q → AllFit ks)
 
     abbrev at : ℕ
     at = left_of (length ks)
@@ -153,12 +147,12 @@ module _ (m : List ℕ) (a b : ℕ) where
         → joined_kids m a b ks ≡ cond t (ruled ((2, too_wide (total_of ks)) ∷ []) (true, list_put m a (list_of ks))) (shared m a b (take at ks) (drop at ks))
     kids-by t e = ap (λ (x : Bool). cond x (ruled ((2, too_wide (total_of ks)) ∷ []) (true, list_put m a (list_of ks))) (shared m a b (take at ks) (drop at ks))) e
 
-    pub kids-merged : (c : NodeChildren) → c ≡ list_of ks → length ks ≤ 16 → Joined (one_put c) m r after × ((q : Bool) → truth r ≡ value q → Fitting c.arr) → Ends
+    pub kids-merged : (c : NodeChildren) → c ≡ list_of ks → length ks ≤ 16 → Joined (one_put c) m r after × ((q : Bool) → outcome r ≡ value q → Fitting c.arr) → Ends
     kids-merged c e h j =
         (joined_same (joined_kids m a b ks) m r after (one_put c) (kids-by true (le-leb (length ks) 16 h) ∙ one-put c ks e) j.0, λ q t. list-fits ks c e h (j.1 q t))
 
     pub kids-shared : (c d : NodeChildren) → c ≡ list_of (take at ks) → d ≡ list_of (drop at ks) → 16 < length ks → length ks ≤ 32
-        → Joined (two_put c d) m r after × ((q : Bool) → truth r ≡ value q → Fitting c.arr × Fitting d.arr) → Ends
+        → Joined (two_put c d) m r after × ((q : Bool) → outcome r ≡ value q → Fitting c.arr × Fitting d.arr) → Ends
     kids-shared c d e f g h j =
         let left = list-fits (take at ks) c e (omega (arith, length-take at ks)) in
         let right = list-fits (drop at ks) d f (omega (arith, length-drop at ks)) in
@@ -224,15 +218,15 @@ module _ (m : List ℕ) (a b : ℕ) where
   abbrev kin : List Kid
   kin = children_of m a ++ children_of m b
 
-  abbrev Done : Truth → List ℕ → Type 0
-  Done r after = Joined (joined m a b) m r after × ((q : Bool) → truth r ≡ value q → is_list m a ≡ true → AllFit kin)
+  abbrev Done : Answer Bool → List ℕ → Type 0
+  Done r after = Joined (joined m a b) m r after × ((q : Bool) → outcome r ≡ value q → is_list m a ≡ true → AllFit kin)
 
   joined_by : (t : Bool) → is_leaf m a ≡ t → joined m a b ≡ cond t (joined_text m a b (text_of m a ++ text_of m b)) (joined_kids m a b kin)
   unfolding joined
   joined_by t e = ap (λ (x : Bool). cond x (joined_text m a b (text_of m a ++ text_of m b)) (joined_kids m a b kin)) e
 
-  pub leaves-joined : (r : Truth) (after : List ℕ) → is_leaf m a ≡ true → Joined (joined_text m a b (text_of m a ++ text_of m b)) m r after → Done r after
+  pub leaves-joined : (r : Answer Bool) (after : List ℕ) → is_leaf m a ≡ true → Joined (joined_text m a b (text_of m a ++ text_of m b)) m r after → Done r after
   leaves-joined r after e j = (joined_same (joined m a b) m r after _ (joined_by true e) j, λ q f g. absurd (true≢false (sym g ∙ leaf-no-list m a e)))
 
-  pub lists-joined : (r : Truth) (after : List ℕ) → is_list m a ≡ true → Ends m a b kin r after → Done r after
+  pub lists-joined : (r : Answer Bool) (after : List ℕ) → is_list m a ≡ true → Ends m a b kin r after → Done r after
   lists-joined r after e j = (joined_same (joined m a b) m r after _ (joined_by false (list-no-leaf m a e)) j.0, λ q f g. j.1 q f)

@@ -1,4 +1,6 @@
 -- Two leaves joined: from what the calls on a leaf promise to what the join comes to.
+use Rattle.answer.specs.Answers.{Answer, outcome}
+use Rattle.std.specs.Prelude.{Err}
 use mathlib.Core.Path.{◌≡◌, sym, ap, subst, ◌∙◌}
 use mathlib.Core.Bool.{Bool, true, false, ◌||◌, cond}
 use mathlib.Core.List.{List, [], ◌∷◌, ◌++◌}
@@ -7,14 +9,7 @@ use native.Mathlib.Omega.{arith}
 use lib.ListN.{length, take, drop, length-append}
 use borrow.Author.Tests.{le-leb, lt-leb, eqb-false}
 use Rattle.plain.specs.Outcome.{Outcome, Outcome.value, Outcome.refused, ruled, past, kept, mapped}
-use Rattle.answer.specs.Answers.{truth, number, sides}
 use Rattle.answer.specs.declared.Refusal.{Refusal}
-use Rattle.answer.specs.declared.Number.{Number}
-use Rattle.answer.specs.declared.Number.TheVariants as Number·case
-use Rattle.answer.specs.declared.Sides.{Sides}
-use Rattle.answer.specs.declared.Sides.TheVariants as Sides·case
-use Rattle.answer.specs.declared.Truth.{Truth}
-use Rattle.answer.specs.declared.Truth.TheVariants as Truth·case
 use Rattle.leaf_bytes.specs.Split.{half_split}
 use Rattle.nodes.specs.Node.{text_of, leaf_put}
 use Rattle.nodes.specs.Calls.{leaf_edited, leaf_halved, LeafWrote, LeavesWrote}
@@ -25,12 +20,12 @@ use Rattle.merge.specs.Join.{parted, joined_text, Joined}
 
 -- ── answers ──
 
-module _ (o : Outcome (Bool × List ℕ)) (m : List ℕ) (r : Truth) (after : List ℕ) where
-  pub joined-done : (q : Bool) (l : List ℕ) → o ≡ value (q, l) → truth r ≡ value q → after ≡ l → Joined o m r after
+module _ (o : Outcome (Bool × List ℕ)) (m : List ℕ) (r : Answer Bool) (after : List ℕ) where
+  pub joined-done : (q : Bool) (l : List ℕ) → o ≡ value (q, l) → outcome r ≡ value q → after ≡ l → Joined o m r after
   joined-done q l e f g =
       record { answered = f ∙ sym (ap (λ (p : Outcome (Bool × List ℕ)). mapped (λ t. t.0) p) e); memory = g ∙ sym (ap (λ (p : Outcome (Bool × List ℕ)). kept m (mapped (λ t. t.1) p)) e) }
 
-  pub joined-not : (n : ℕ) → o ≡ refused n → truth r ≡ refused n → after ≡ m → Joined o m r after
+  pub joined-not : (n : ℕ) → o ≡ refused n → outcome r ≡ refused n → after ≡ m → Joined o m r after
   joined-not n e f g =
       record { answered = f ∙ sym (ap (λ (p : Outcome (Bool × List ℕ)). mapped (λ t. t.0) p) e); memory = g ∙ sym (ap (λ (p : Outcome (Bool × List ℕ)). kept m (mapped (λ t. t.1) p)) e) }
 
@@ -38,21 +33,21 @@ module _ (o : Outcome (Bool × List ℕ)) (m : List ℕ) (r : Truth) (after : Li
   pub joined_same : (p : Outcome (Bool × List ℕ)) → o ≡ p → Joined p m r after → Joined o m r after
   joined_same p e j = subst (λ (x : Outcome (Bool × List ℕ)). Joined x m r after) (sym e) j
 
-pub merged-answer : (n : Number) (q : Refusal) → n ≡ Number·case.Refused q → truth (Truth·case.Refused q) ≡ mapped (λ t. true) (number n)
-merged-answer n q e = sym (ap (λ (k : Number). mapped (λ t. true) (number k)) e)
+pub merged-answer : (n : Answer ℕ) (q : Refusal) → n ≡ Err q → outcome (Err q) ≡ mapped (λ t. true) (outcome n)
+merged-answer n q e = sym (ap (λ (k : Answer ℕ). mapped (λ t. true) (outcome k)) e)
 
-pub parted-answer : (s : Sides) (q : Refusal) → s ≡ Sides·case.Refused q → truth (Truth·case.Refused q) ≡ mapped (λ t. false) (sides s)
-parted-answer s q e = sym (ap (λ (k : Sides). mapped (λ t. false) (sides k)) e)
+pub parted-answer : (s : Answer (ℕ × ℕ)) (q : Refusal) → s ≡ Err q → outcome (Err q) ≡ mapped (λ t. false) (outcome s)
+parted-answer s q e = sym (ap (λ (k : Answer (ℕ × ℕ)). mapped (λ t. false) (outcome k)) e)
 
 -- ── a leaf edited, or two made ──
 
-module _ (m : List ℕ) (a : ℕ) (t : List ℕ) (n : Number) (r : Truth) (after : List ℕ) (k : truth r ≡ mapped (λ x. true) (number n)) where
+module _ (m : List ℕ) (a : ℕ) (t : List ℕ) (n : Answer ℕ) (r : Answer Bool) (after : List ℕ) (k : outcome r ≡ mapped (λ x. true) (outcome n)) where
   edit-joined : (o : Outcome (List ℕ)) (j : Outcome (Bool × List ℕ)) → o ≡ value t → LeafWrote o m a n after → j ≡ value (true, leaf_put m a t) → Joined j m r after
   edit-joined o j e w f =
       joined-done j m r after true (leaf_put m a t) f (k ∙ ap (mapped (λ x. true)) w.answered ∙ ap (λ (p : Outcome (List ℕ)). mapped (λ x. true) (mapped (λ y. length y) p)) e)
       (w.memory ∙ ap (λ (p : Outcome (List ℕ)). kept m (mapped (λ y. leaf_put m a y) p)) e)
 
-module _ (m : List ℕ) (a b : ℕ) (s : Sides) (r : Truth) (after : List ℕ) (k : truth r ≡ mapped (λ x. false) (sides s)) where
+module _ (m : List ℕ) (a b : ℕ) (s : Answer (ℕ × ℕ)) (r : Answer Bool) (after : List ℕ) (k : outcome r ≡ mapped (λ x. false) (outcome s)) where
   halve-joined : (long : Bool) (x y : List ℕ) (o : Outcome (List ℕ × List ℕ)) (j : Outcome (Bool × List ℕ))
       → o ≡ ruled ((11, long) ∷ []) (x, y) → LeavesWrote o m a b s after → j ≡ ruled ((11, long) ∷ []) (false, leaf_put (leaf_put m a x) b y) → Joined j m r after
   unfolding ruled
@@ -79,7 +74,7 @@ module _ (m : List ℕ) (a b n : ℕ) (text : List ℕ) (two : TwoLeaves m a b) 
   whole_length : length whole ≡ n + length text
   whole_length = length-append (text_of m a) (text_of m b) ∙ ap (λ (k : ℕ). k + length (text_of m b)) (sym e) ∙ ap (λ (l : List ℕ). n + length l) (sym f)
 
-  pub text-merged : (k : Number) (r : Truth) (after : List ℕ) → n + length text ≤ 512 → truth r ≡ mapped (λ x. true) (number k)
+  pub text-merged : (k : Answer ℕ) (r : Answer Bool) (after : List ℕ) → n + length text ≤ 512 → outcome r ≡ mapped (λ x. true) (outcome k)
       → LeafWrote (leaf_edited m a n n text) m a k after → Joined (joined_text m a b whole) m r after
   text-merged k r after h p w =
       let small : length whole ≤ 512 = omega (arith, whole_length) in
@@ -90,7 +85,7 @@ module _ (m : List ℕ) (a b n : ℕ) (text : List ℕ) (two : TwoLeaves m a b) 
       edit-joined m a whole k r after p (leaf_edited m a n n text) (joined_text m a b whole) there w
       (ap (λ (c : Bool). cond c (value (true, leaf_put m a whole)) (parted m a b whole (half_split whole))) (le-leb (length whole) 512 small))
 
-  pub text-parted : (k : Sides) (r : Truth) (after : List ℕ) → 512 < n + length text → truth r ≡ mapped (λ x. false) (sides k)
+  pub text-parted : (k : Answer (ℕ × ℕ)) (r : Answer Bool) (after : List ℕ) → 512 < n + length text → outcome r ≡ mapped (λ x. false) (outcome k)
       → LeavesWrote (leaf_halved m a n text b) m a b k after → Joined (joined_text m a b whole) m r after
   text-parted k r after h p w =
       let large : 512 < length whole = omega (arith, whole_length) in

@@ -1,4 +1,5 @@
 -- `merge_distribute` as a whole: from the answers of the check and of the join to what the call comes to.
+use Rattle.std.specs.Prelude.{Ok, Err}
 use mathlib.Core.Path.{◌≡◌, refl, sym, ap, subst, ◌∙◌}
 use mathlib.Core.Bool.{Bool, true, false, cond}
 use mathlib.Core.List.{List, [], ◌∷◌, ◌++◌}
@@ -7,12 +8,8 @@ use native.Mathlib.Omega.{arith}
 use lib.ListN.{length}
 use borrow.Author.Tests.{eqb-false}
 use Rattle.plain.specs.Outcome.{Outcome, Outcome.value, Outcome.refused, Rule, ruled, mapped}
-use Rattle.answer.specs.Answers.{truth, verdict, refusal_number}
+use Rattle.answer.specs.Answers.{refusal_number, Answer, outcome}
 use Rattle.answer.specs.declared.Refusal.{Refusal}
-use Rattle.answer.specs.declared.Truth.{Truth}
-use Rattle.answer.specs.declared.Truth.TheVariants as Truth·case
-use Rattle.answer.specs.declared.Verdict.{Verdict}
-use Rattle.answer.specs.declared.Verdict.TheVariants as Verdict·case
 use Rattle.plain.proofs.Outcome.{clash}
 use Rattle.leaf_bytes.proofs.Opened.{never}
 use Rattle.pool.specs.declared.Kid.{Kid}
@@ -67,18 +64,18 @@ module _ (m : List ℕ) (x y a b : ℕ) (e : x ≡ a) (f : y ≡ b) where
   pub alike_at : Alike m a b → Alike m x y
   alike_at g = subst (λ (u : ℕ). Alike m u y) (sym e) (subst (λ (v : ℕ). Alike m a v) (sym f) g)
 
-  abbrev Opened : ℕ → ℕ → Truth → List ℕ → Type 0
-  Opened u v r l = Joined (joined m u v) m r l × ((q : Bool) → truth r ≡ value q → is_list m u ≡ true → AllFit (children_of m u ++ children_of m v))
+  abbrev Opened : ℕ → ℕ → Answer Bool → List ℕ → Type 0
+  Opened u v r l = Joined (joined m u v) m r l × ((q : Bool) → outcome r ≡ value q → is_list m u ≡ true → AllFit (children_of m u ++ children_of m v))
 
-  pub join-at : (r : Truth) (l : List ℕ) → Opened x y r l → Opened a b r l
+  pub join-at : (r : Answer Bool) (l : List ℕ) → Opened x y r l → Opened a b r l
   join-at r l w = subst (λ (u : ℕ). Opened u b r l) e (subst (λ (v : ℕ). Opened x v r l) f w)
 
 -- ── the join opened ──
 
-joined-value : (o : Outcome (Bool × List ℕ)) (m : List ℕ) (r : Truth) (q : Bool) (l : List ℕ) → Joined o m r l → r ≡ Truth·case.Is q → o ≡ value (q, l)
-joined-value (refused n) m r q l j e = absurd (never n q (sym j.answered ∙ ap truth e))
+joined-value : (o : Outcome (Bool × List ℕ)) (m : List ℕ) (r : Answer Bool) (q : Bool) (l : List ℕ) → Joined o m r l → r ≡ Ok q → o ≡ value (q, l)
+joined-value (refused n) m r q l j e = absurd (never n q (sym j.answered ∙ ap outcome e))
 joined-value (value (p, k)) m r q l j e =
-    let z : value p ≡ value q = sym j.answered ∙ ap truth e in
+    let z : value p ≡ value q = sym j.answered ∙ ap outcome e in
     let y : p ≡ q = cc in
     ap (λ (x : Bool). value (x, k)) y ∙ ap (λ (x : List ℕ). value (q, x)) (sym j.memory)
 
@@ -90,10 +87,10 @@ module _ (m : List ℕ) (p i j : ℕ) (list : NodeChildren) (e : is_list m p ≡
   abbrev b : ℕ
   b = slot_in (kids list) j
 
-  module _ (r : Truth) (l : List ℕ) (w : Joined (joined m a b) m r l × ((q : Bool) → truth r ≡ value q → is_list m a ≡ true → AllFit (children_of m a ++ children_of m b))) where
-    module _ (q : Bool) (is : r ≡ Truth·case.Is q) where
+  module _ (r : Answer Bool) (l : List ℕ) (w : Joined (joined m a b) m r l × ((q : Bool) → outcome r ≡ value q → is_list m a ≡ true → AllFit (children_of m a ++ children_of m b))) where
+    module _ (q : Bool) (is : r ≡ Ok q) where
       after-join : After m a b l
-      after-join = joined-after m a b g.alike h.right-counts (w.1 q (ap truth is)) q l (joined-value (joined m a b) m r q l w.0 is)
+      after-join = joined-after m a b g.alike h.right-counts (w.1 q (ap outcome is)) q l (joined-value (joined m a b) m r q l w.0 is)
 
       stays : Same l m p
       stays = same l m p (after-join.others p (eqb-false p a g.first) (eqb-false p b g.second)) after-join.size
@@ -107,26 +104,26 @@ module _ (m : List ℕ) (p i j : ℕ) (list : NodeChildren) (e : is_list m p ≡
         record { left-counts = after-join.left; right-counts = after-join.right; first = h.first; second = h.second },
       )
 
-      pub merged-done : (v : Verdict) (t : Truth) (k : List ℕ) → Wrote (value (settled_memory p (kids list) i j q l)) l v k → truth t ≡ mapped (λ x. q) (verdict v)
+      pub merged-done : (v : Answer (Unit {0})) (t : Answer Bool) (k : List ℕ) → Wrote (value (settled_memory p (kids list) i j q l)) l v k → outcome t ≡ mapped (λ x. q) (outcome v)
           → Joined (merged m p (kids list) i j) m t k
       merged-done v t k x d =
           joined-done (merged m p (kids list) i j) m t k q (settled_memory p (kids list) i j q l)
           (ap (mapped (settled p (kids list) i j)) (joined-value (joined m a b) m r q l w.0 is)) (d ∙ ap (mapped (λ y. q)) x.answered) x.memory
 
-    pub merged-not : (q : Refusal) → r ≡ Truth·case.Refused q → Joined (merged m p (kids list) i j) m (Truth·case.Refused q) l
+    pub merged-not : (q : Refusal) → r ≡ Err q → Joined (merged m p (kids list) i j) m (Err q) l
     merged-not q is = go (joined m a b) refl w.0
       where
-        go : (o : Outcome (Bool × List ℕ)) → joined m a b ≡ o → Joined o m r l → Joined (merged m p (kids list) i j) m (Truth·case.Refused q) l
-        go (value v) z x = absurd (never (refusal_number q) v.0 (sym (ap truth is) ∙ x.answered))
+        go : (o : Outcome (Bool × List ℕ)) → joined m a b ≡ o → Joined o m r l → Joined (merged m p (kids list) i j) m (Err q) l
+        go (value v) z x = absurd (never (refusal_number q) v.0 (sym (ap outcome is) ∙ x.answered))
         go (refused n) z x =
-            joined-not (merged m p (kids list) i j) m (Truth·case.Refused q) l n (ap (mapped (settled p (kids list) i j)) z) (sym (ap truth is) ∙ x.answered) x.memory
+            joined-not (merged m p (kids list) i j) m (Err q) l n (ap (mapped (settled p (kids list) i j)) z) (sym (ap outcome is) ∙ x.answered) x.memory
 
 -- ── the call ──
 
 module _ (m : List ℕ) (p i j : ℕ) where
-  pub merging-not : (q : Refusal) → refused (refusal_number q) ≡ tested (pair_rules m p i j) → Joined (merging m p i j) m (Truth·case.Refused q) m
+  pub merging-not : (q : Refusal) → refused (refusal_number q) ≡ tested (pair_rules m p i j) → Joined (merging m p i j) m (Err q) m
   unfolding merging
-  merging-not q e = joined-not (merging m p i j) m (Truth·case.Refused q) m (refusal_number q) (after-not (pair_rules m p i j) (merged m p (children_of m p) i j) (refusal_number q) (sym e)) refl refl
+  merging-not q e = joined-not (merging m p i j) m (Err q) m (refusal_number q) (after-not (pair_rules m p i j) (merged m p (children_of m p) i j) (refusal_number q) (sym e)) refl refl
 
   -- of an accepted call the second child lies in the memory
   pub merging-there : (v : Bool × List ℕ) → merging m p i j ≡ value v → slot_start (slot_in (children_of m p) j) + 640 ≤ length m
@@ -146,7 +143,7 @@ module _ (m : List ℕ) (p i j : ℕ) where
   loaded-list e r w = (load-list m p (pair_found m p i j (sym e)).list r w).0
 
   pub loaded-never : {X : Type 0} → value tt ≡ tested (pair_rules m p i j) → (r : Listed) → Listing (loaded m p) (list_of []) r → (q : Refusal)
-      → r.verdict ≡ Verdict·case.Refused q → X
+      → r.verdict ≡ Err q → X
   loaded-never {X} e r w q f = load-never m p (pair_found m p i j (sym e)).list r w q f
 
   module _ (e : value tt ≡ tested (pair_rules m p i j)) (list : NodeChildren) (f : list ≡ list_of (children_of m p)) where
@@ -175,7 +172,7 @@ module _ (m : List ℕ) (p i j : ℕ) where
           subst (λ (x : List Kid). Ready m p (slot_in x i) (slot_in x j)) back ready,
         )
 
-    pub merging-done : (r : Truth) (l : List ℕ) → Joined (merged m p (kids list) i j) m r l → Joined (merging m p i j) m r l
+    pub merging-done : (r : Answer Bool) (l : List ℕ) → Joined (merged m p (kids list) i j) m r l → Joined (merging m p i j) m r l
     unfolding merging
     merging-done r l w =
         joined_same (merging m p i j) m r l (merged m p (kids list) i j)

@@ -1,4 +1,6 @@
 -- A list brought up to date when two of its children were joined: each is counted anew where it lies.
+use Rattle.answer.specs.Answers.{Answer, outcome}
+use Rattle.std.specs.Prelude.{Err}
 use mathlib.Core.Path.{◌≡◌, sym, ap, subst, ◌∙◌}
 use mathlib.Core.Bool.{Bool, true}
 use mathlib.Core.List.{List}
@@ -9,11 +11,8 @@ use lib.Seq.{length-take-le, get_or-take}
 use borrow.Author.Tests.{eqb-false}
 use Rattle.plain.specs.Outcome.{Outcome, Outcome.value, kept, mapped}
 use Rattle.plain.proofs.Logic.{cut}
-use Rattle.answer.specs.Answers.{verdict}
 use Rattle.answer.specs.declared.Refusal.{Refusal}
-use Rattle.answer.specs.declared.Verdict.{Verdict}
-use Rattle.answer.specs.declared.Verdict.TheVariants as Verdict·case
-use Rattle.answer.proofs.Opened.{verdict-never}
+use Rattle.answer.proofs.Opened.{never-refused}
 use Rattle.pool.specs.declared.Kid.{Kid}
 use Rattle.pool.specs.Slot.{slot_start, kid_start, slot_of, len_of, region_of, kid_at, kid_bytes, entries, no_kid, kid_put}
 use Rattle.pool.specs.Calls.{Wrote}
@@ -83,14 +82,14 @@ module _ (m : List ℕ) (p i : ℕ) (e : is_list m p ≡ true) (h : i < 16) wher
 
 -- ── one update that is accepted ──
 
-update-is : (m : List ℕ) (p i : ℕ) (v : Verdict) (after : List ℕ) → is_list m p ≡ true → i < len_of m p → counted m (slot_at m p i) ≡ value (counts_of m (slot_at m p i))
+update-is : (m : List ℕ) (p i : ℕ) (v : Answer (Unit {0})) (after : List ℕ) → is_list m p ≡ true → i < len_of m p → counted m (slot_at m p i) ≡ value (counts_of m (slot_at m p i))
     → Wrote (updated m p i) m v after → Wrote (value (renewed m p i)) m v after
 update-is m p i v after e h c w = subst (λ (o : Outcome (List ℕ)). Wrote o m v after) (updated-renews m p i e h (renews m p i c)) w
 
 counted-at : (m : List ℕ) (s t : ℕ) → s ≡ t → counted m t ≡ value (counts_of m t) → counted m s ≡ value (counts_of m s)
 counted-at m s t e c = ap (counted m) e ∙ c ∙ sym (ap (λ (u : ℕ). value (counts_of m u)) e)
 
-pub settled-as : (m : List ℕ) (p : ℕ) (ks : List Kid) (i j : ℕ) (x y : Bool) (v : Verdict) (after : List ℕ) → x ≡ y → Wrote (value (settled_memory p ks i j y m)) m v after
+pub settled-as : (m : List ℕ) (p : ℕ) (ks : List Kid) (i j : ℕ) (x y : Bool) (v : Answer (Unit {0})) (after : List ℕ) → x ≡ y → Wrote (value (settled_memory p ks i j y m)) m v after
     → Wrote (value (settled_memory p ks i j x m)) m v after
 settled-as m p ks i j x y v after e w = subst (λ (b : Bool). Wrote (value (settled_memory p ks i j b m)) m v after) (sym e) w
 
@@ -127,8 +126,8 @@ module _ (m : List ℕ) (p i j : ℕ) (list : NodeChildren) (e : is_list m p ≡
   removed-is = removed-done list j (omega arith) k (omega (arith, len_is, (list-says m p e).2))
 
   module _ (t : Taken) (taking : Taking (removed list j) list t) where
-    pub removed-never : {X : Type 0} (q : Refusal) → t.verdict ≡ Verdict·case.Refused q → X
-    removed-never {X} q f = verdict-never q t.verdict (taking.answered ∙ ap (mapped (λ x. tt)) removed-is) f
+    pub removed-never : {X : Type 0} (q : Refusal) → t.verdict ≡ Err q → X
+    removed-never {X} q f = never-refused q t.verdict tt (taking.answered ∙ ap (mapped (λ x. tt)) removed-is) f
 
     left-list : t.list ≡ list_of less
     left-list = taking.list ∙ ap (λ (o : Outcome (Kid × NodeChildren)). kept list (mapped (λ x. x.1) o)) removed-is
@@ -140,17 +139,17 @@ module _ (m : List ℕ) (p i j : ℕ) (list : NodeChildren) (e : is_list m p ≡
     small : t.list.len ≤ 16
     small = omega (arith, left-len, less-length, len_is, (list-says m p e).2)
 
-    module _ (v : Verdict) (l : List ℕ) (wrote : Wrote (stored m p t.list) m v l × Fitted v t.list.arr) where
+    module _ (v : Answer (Unit {0})) (l : List ℕ) (wrote : Wrote (stored m p t.list) m v l × Fitted v t.list.arr) where
       abbrev c : NodeChildren
       c = t.list
 
-      put : (verdict v ≡ value tt) × (l ≡ list_put m p c) × Fitting c.arr
+      put : (outcome v ≡ value tt) × (l ≡ list_put m p c) × Fitting c.arr
       put = list-stored m p c v l (not-outside m p (list-says m p e).0) small wrote
 
-      pub stored-never : {X : Type 0} (q : Refusal) → v ≡ Verdict·case.Refused q → X
-      stored-never {X} q f = verdict-never q v put.0 f
+      pub stored-never : {X : Type 0} (q : Refusal) → v ≡ Err q → X
+      stored-never {X} q f = never-refused q v tt put.0 f
 
-      pub settle-merged : (w : Verdict) (after : List ℕ) → Wrote (updated l p i) l w after → Wrote (value (renewed (list_put m p (list_of less)) p i)) m w after
+      pub settle-merged : (w : Answer (Unit {0})) (after : List ℕ) → Wrote (updated l p i) l w after → Wrote (value (renewed (list_put m p (list_of less)) p i)) m w after
       settle-merged w after update =
           let s = list-says m p e in
           let six = put.2.sixteen in
@@ -173,14 +172,14 @@ module _ (m : List ℕ) (p i j : ℕ) (list : NodeChildren) (e : is_list m p ≡
   at : (n : ℕ) → n < len_of m p → slot_at m p n ≡ slot_in ks n
   at n g = sym (slot-at m p n g) ∙ ap (λ (y : List Kid). slot_in y n) (sym ks-are)
 
-  module _ (v : Verdict) (l : List ℕ) (one : Wrote (updated m p i) m v l) where
+  module _ (v : Answer (Unit {0})) (l : List ℕ) (one : Wrote (updated m p i) m v l) where
     first : Wrote (value (renewed m p i)) m v l
     first = update-is m p i v l e (omega (arith, len_is)) (counted-at m (slot_at m p i) (slot_in ks i) (at i (omega (arith, len_is))) r.left-counts) one
 
-    pub updated-never : {X : Type 0} (q : Refusal) → v ≡ Verdict·case.Refused q → X
-    updated-never {X} q f = verdict-never q v first.answered f
+    pub updated-never : {X : Type 0} (q : Refusal) → v ≡ Err q → X
+    updated-never {X} q f = never-refused q v tt first.answered f
 
-    pub settle-shared : (w : Verdict) (after : List ℕ) → Wrote (updated l p j) l w after → Wrote (value (renewed (renewed m p i) p j)) m w after
+    pub settle-shared : (w : Answer (Unit {0})) (after : List ℕ) → Wrote (updated l p j) l w after → Wrote (value (renewed (renewed m p i) p j)) m w after
     settle-shared w after two =
         let s = list-says m p e in
         let b = slot_in ks j in

@@ -1,8 +1,7 @@
 -- Two nodes of one kind joined in their slots.
+use Rattle.answer.specs.Answers.{Answer, outcome}
 use Rattle.std.specs.Prelude.{◌≡◌, Bool, true, false, ◌||◌, cond, List, [], ◌∷◌, ◌++◌, ℕ, ◌-◌, ◌<◌, leb, length, take, drop, get_or}
 use Rattle.plain.specs.Outcome.{Outcome, Outcome.value, ruled, past, kept, mapped}
-use Rattle.answer.specs.Answers.{truth}
-use Rattle.answer.specs.declared.Truth.{Truth}
 use Rattle.leaf_bytes.specs.Split.{half_split}
 use Rattle.pool.specs.declared.Kid.{Kid}
 use Rattle.pool.specs.Slot.{no_kid, Fits}
@@ -33,8 +32,8 @@ unfolding ruled
 joined m a b = cond (is_leaf m a) (joined_text m a b (text_of m a ++ text_of m b)) (joined_kids m a b (children_of m a ++ children_of m b))
 
 -- A call that answers a yes or a no, and every byte afterwards.
-pub record Joined (o : Outcome (Bool × List ℕ)) (before : List ℕ) (r : Truth) (after : List ℕ) : Type 0 where
-  pub answered : truth r ≡ mapped (λ t. t.0) o
+pub record Joined (o : Outcome (Bool × List ℕ)) (before : List ℕ) (r : Answer Bool) (after : List ℕ) : Type 0 where
+  pub answered : outcome r ≡ mapped (λ t. t.0) o
   pub memory : after ≡ kept before (mapped (λ t. t.1) o)
 
 -- every child's numbers have 32 bits

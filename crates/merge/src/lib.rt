@@ -14,7 +14,7 @@ ghost use Rattle.child_info.specs.Leaves.{Mergeable};
 ghost use Rattle.merge.specs.Join.{Joined};
 ghost use Rattle.merge.specs.Merge.{settled_memory, Ready, merged, merging};
 
-use answer::{Truth, Verdict};
+use answer::Answer;
 use child_info::check_pair;
 use child_update::update_child_info;
 use join::{join, told_if};
@@ -22,19 +22,13 @@ use node_children::NodeChildren;
 use nodes::{load, store};
 
 // The list without the second of two children that were merged, and the first counted anew.
-fn take_out(m: &mut [u8], slot: usize, list: NodeChildren, idx1: usize, idx2: usize) -> Verdict
+fn take_out(m: &mut [u8], slot: usize, list: NodeChildren, idx1: usize, idx2: usize) -> Answer<()>
     requires { (is_list m.old slot ≡ true) × (list ≡ list_of (children_of m.old slot)) × (idx1 < idx2) × (idx2 < list.len) × Ready m.old slot (slot_in (kids list) idx1) (slot_in (kids list) idx2) }
     ensures { Wrote (value (settled_memory slot (kids list) idx1 idx2 true m.old)) m.old result m.new }
 {
     let rest = list.remove(idx2);
-    let may = rest.verdict;
-    let Verdict::Accepted = may else {
-        return may;
-    };
-    let put = store(m, slot, rest.list);
-    let Verdict::Accepted = put else {
-        return put;
-    };
+    rest.verdict?;
+    store(m, slot, rest.list)?;
     update_child_info(m, slot, idx1)
 }
 
@@ -46,17 +40,14 @@ fn settle(
     idx1: usize,
     idx2: usize,
     merged: bool,
-) -> Verdict
+) -> Answer<()>
     requires { (is_list m.old slot ≡ true) × (list ≡ list_of (children_of m.old slot)) × (idx1 < idx2) × (idx2 < list.len) × Ready m.old slot (slot_in (kids list) idx1) (slot_in (kids list) idx2) }
     ensures { Wrote (value (settled_memory slot (kids list) idx1 idx2 merged m.old)) m.old result m.new }
 {
     if merged {
         return take_out(m, slot, list, idx1, idx2);
     }
-    let first = update_child_info(m, slot, idx1);
-    let Verdict::Accepted = first else {
-        return first;
-    };
+    update_child_info(m, slot, idx1)?;
     update_child_info(m, slot, idx2)
 }
 
@@ -76,32 +67,30 @@ fn slot_of(list: NodeChildren, idx: usize) -> usize
 }
 
 // Merges two children of a list that may be merged, or distributes between them.
-fn merge_pair(m: &mut [u8], slot: usize, list: NodeChildren, idx1: usize, idx2: usize) -> Truth
+fn merge_pair(
+    m: &mut [u8],
+    slot: usize,
+    list: NodeChildren,
+    idx1: usize,
+    idx2: usize,
+) -> Answer<bool>
     requires { (is_list m.old slot ≡ true) × (list ≡ list_of (children_of m.old slot)) × (idx1 < idx2) × (idx2 < list.len) × Mergeable m.old slot (slot_in (kids list) idx1) (slot_in (kids list) idx2) × Ready m.old slot (slot_in (kids list) idx1) (slot_in (kids list) idx2) }
     ensures { Joined (merged m.old slot (kids list) idx1 idx2) m.old result m.new }
 {
     let a = slot_of(list, idx1);
     let b = slot_of(list, idx2);
-    match join(m, a, b) {
-        Truth::Refused(r) => Truth::Refused(r),
-        Truth::Is(merged) => told_if(settle(m, slot, list, idx1, idx2, merged), merged),
-    }
+    let merged = join(m, a, b)?;
+    told_if(settle(m, slot, list, idx1, idx2, merged), merged)
 }
 
 // Merges the second of two children into the first, if both together are no more than a node holds, and takes it out of the list; or
 // distributes what they hold evenly. Answers whether it merged.
-pub fn merge_distribute(m: &mut [u8], slot: usize, idx1: usize, idx2: usize) -> Truth
+pub fn merge_distribute(m: &mut [u8], slot: usize, idx1: usize, idx2: usize) -> Answer<bool>
     ensures { Joined (merging m.old slot idx1 idx2) m.old result m.new }
 {
-    match check_pair(m, slot, idx1, idx2) {
-        Verdict::Refused(r) => Truth::Refused(r),
-        Verdict::Accepted => {
-            let found = load(m, slot);
-            let may = found.verdict;
-            match may {
-                Verdict::Refused(r) => Truth::Refused(r),
-                Verdict::Accepted => merge_pair(m, slot, found.list, idx1, idx2),
-            }
-        }
-    }
+    check_pair(m, slot, idx1, idx2)?;
+    let found = load(m, slot);
+    let may = found.verdict;
+    may?;
+    merge_pair(m, slot, found.list, idx1, idx2)
 }

@@ -1,4 +1,5 @@
 -- From the tests of the code to the rules of `Calls`, and how a promise is met.
+use Rattle.std.specs.Prelude.{Ok, Err}
 use mathlib.Core.Path.{◌≡◌, refl, sym, ap, ◌∙◌, subst}
 use mathlib.Core.Bool.{Bool, true, false, ◌||◌}
 use mathlib.Core.List.{[], ◌∷◌, ◌++◌}
@@ -12,7 +13,6 @@ use Rattle.plain.proofs.Logic.{or_left, or_right, or-none}
 use Rattle.plain.proofs.Outcome.{rule-applies, rule-passed, one-applies, one-passed}
 use Rattle.answer.specs.Answers.{refusal_number}
 use Rattle.answer.specs.declared.Refusal.{Refusal}
-use Rattle.answer.specs.declared.Verdict.TheVariants.{Accepted, Refused}
 use Rattle.pool.specs.declared.Kid.{Kid}
 use Rattle.node_children.specs.declared.NodeChildren.{NodeChildren}
 use Rattle.node_children.specs.declared.Taken.{Taken}
@@ -24,28 +24,28 @@ use Rattle.node_children.specs.Calls.{with_kid, without, cut_at, halves, pushed,
 -- ── a promise met ──
 
 module _ (o : Outcome NodeChildren) (before : NodeChildren) where
-  pub listing-refused : (r : Refusal) → o ≡ refused (refusal_number r) → Listing o before (record { verdict = Refused r; list = before })
+  pub listing-refused : (r : Refusal) → o ≡ refused (refusal_number r) → Listing o before (record { verdict = Err r; list = before })
   listing-refused r e = record { answered = ap (mapped (λ _. tt)) (sym e); list = ap (kept before) (sym e) }
 
-  pub listing-done : (l m : NodeChildren) → o ≡ value l → m ≡ l → Listing o before (record { verdict = Accepted; list = m })
+  pub listing-done : (l m : NodeChildren) → o ≡ value l → m ≡ l → Listing o before (record { verdict = (Ok tt); list = m })
   listing-done l m e f = record { answered = ap (mapped (λ _. tt)) (sym e); list = f ∙ ap (kept before) (sym e) }
 
 module _ (o : Outcome (Kid × NodeChildren)) (before : NodeChildren) where
   pub taking-same : (p : Outcome (Kid × NodeChildren)) (r : Taken) → o ≡ p → Taking p before r → Taking o before r
   taking-same p r e t = subst (λ (q : Outcome (Kid × NodeChildren)). Taking q before r) (sym e) t
 
-  pub taking-done : (k j : Kid) (l m : NodeChildren) → o ≡ value (k, l) → j ≡ k → m ≡ l → Taking o before (record { verdict = Accepted; kid = j; list = m })
-  taking-done k j l m e f g = taking-same (value (k, l)) (record { verdict = Accepted; kid = j; list = m }) e (record { answered = refl; kid = f; list = g })
+  pub taking-done : (k j : Kid) (l m : NodeChildren) → o ≡ value (k, l) → j ≡ k → m ≡ l → Taking o before (record { verdict = (Ok tt); kid = j; list = m })
+  taking-done k j l m e f g = taking-same (value (k, l)) (record { verdict = (Ok tt); kid = j; list = m }) e (record { answered = refl; kid = f; list = g })
 
 module _ (o : Outcome (NodeChildren × NodeChildren)) (left right : NodeChildren) where
   pub parting-same : (p : Outcome (NodeChildren × NodeChildren)) (r : Two) → o ≡ p → Parting p left right r → Parting o left right r
   parting-same p r e t = subst (λ (q : Outcome (NodeChildren × NodeChildren)). Parting q left right r) (sym e) t
 
-  pub parting-refused : (r : Refusal) → o ≡ refused (refusal_number r) → Parting o left right (record { verdict = Refused r; left = left; right = right })
-  parting-refused r e = parting-same (refused (refusal_number r)) (record { verdict = Refused r; left = left; right = right }) e (record { answered = refl; left-list = refl; right-list = refl })
+  pub parting-refused : (r : Refusal) → o ≡ refused (refusal_number r) → Parting o left right (record { verdict = Err r; left = left; right = right })
+  parting-refused r e = parting-same (refused (refusal_number r)) (record { verdict = Err r; left = left; right = right }) e (record { answered = refl; left-list = refl; right-list = refl })
 
-  pub parting-done : (k j l m : NodeChildren) → o ≡ value (k, l) → j ≡ k → m ≡ l → Parting o left right (record { verdict = Accepted; left = j; right = m })
-  parting-done k j l m e f g = parting-same (value (k, l)) (record { verdict = Accepted; left = j; right = m }) e (record { answered = refl; left-list = f; right-list = g })
+  pub parting-done : (k j l m : NodeChildren) → o ≡ value (k, l) → j ≡ k → m ≡ l → Parting o left right (record { verdict = (Ok tt); left = j; right = m })
+  parting-done k j l m e f g = parting-same (value (k, l)) (record { verdict = (Ok tt); left = j; right = m }) e (record { answered = refl; left-list = f; right-list = g })
 
 -- of an accepted call what was given does not matter
 pub parting-given : (p : NodeChildren × NodeChildren) (left right l m : NodeChildren) (r : Two) → Parting (value p) l m r → Parting (value p) left right r

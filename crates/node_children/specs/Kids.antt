@@ -1,7 +1,7 @@
 -- The children of a list, the list with given children, and what an answer with lists in it promises.
+use Rattle.answer.specs.Answers.{outcome}
 use Rattle.std.specs.Prelude.{◌≡◌, List, ◌++◌, ℕ, ◌-◌, length, take, replicate}
 use Rattle.plain.specs.Outcome.{Outcome, Outcome.value, Outcome.refused, kept, mapped}
-use Rattle.answer.specs.Answers.{verdict}
 use Rattle.pool.specs.declared.Kid.{Kid}
 use Rattle.pool.specs.Slot.{no_kid}
 use Rattle.node_children.specs.declared.NodeChildren.{NodeChildren}
@@ -30,17 +30,17 @@ kid_of (refused n) = no_kid
 
 -- A call that makes one list of another.
 pub record Listing (o : Outcome NodeChildren) (before : NodeChildren) (r : Listed) : Type 0 where
-  pub answered : verdict r.verdict ≡ mapped (λ _. tt) o
+  pub answered : outcome r.verdict ≡ mapped (λ _. tt) o
   pub list : r.list ≡ kept before o
 
 -- A call that takes a child out of a list.
 pub record Taking (o : Outcome (Kid × NodeChildren)) (before : NodeChildren) (r : Taken) : Type 0 where
-  pub answered : verdict r.verdict ≡ mapped (λ _. tt) o
+  pub answered : outcome r.verdict ≡ mapped (λ _. tt) o
   pub kid : r.kid ≡ kid_of (mapped (λ t. t.0) o)
   pub list : r.list ≡ kept before (mapped (λ t. t.1) o)
 
 -- A call that gives two lists.
 pub record Parting (o : Outcome (NodeChildren × NodeChildren)) (left right : NodeChildren) (r : Two) : Type 0 where
-  pub answered : verdict r.verdict ≡ mapped (λ _. tt) o
+  pub answered : outcome r.verdict ≡ mapped (λ _. tt) o
   pub left-list : r.left ≡ kept left (mapped (λ t. t.0) o)
   pub right-list : r.right ≡ kept right (mapped (λ t. t.1) o)

@@ -11,7 +11,7 @@ ghost use Rattle.answer.specs.Answers.{refusal_number};
 ghost use Rattle.node_children.specs.Kids.{list_of, Listing, Taking, Parting};
 ghost use Rattle.node_children.specs.Calls.{pushed, popped, inserted, removed, split_off};
 
-use answer::{Refusal, Verdict};
+use answer::{Answer, Refusal};
 use inner::{child, empty, front, insert_at, no_kid, put, remove_at, rest};
 use pool::{Kid, MAX_CHILDREN};
 
@@ -27,14 +27,14 @@ pub struct NodeChildren {
 // A list: of a refused call the one that was given.
 #[derive(Clone, Copy)]
 pub struct Listed {
-    pub verdict: Verdict,
+    pub verdict: Answer<()>,
     pub list: NodeChildren,
 }
 
 // A child taken out, and the list without it: of a refused call zeros, and the list that was given.
 #[derive(Clone, Copy)]
 pub struct Taken {
-    pub verdict: Verdict,
+    pub verdict: Answer<()>,
     pub kid: Kid,
     pub list: NodeChildren,
 }
@@ -42,7 +42,7 @@ pub struct Taken {
 // Two lists. A refused call hands back the list that was given and one without children; `distribute_with` the two that were given.
 #[derive(Clone, Copy)]
 pub struct Two {
-    pub verdict: Verdict,
+    pub verdict: Answer<()>,
     pub left: NodeChildren,
     pub right: NodeChildren,
 }
@@ -52,7 +52,7 @@ fn none_taken(list: NodeChildren, r: Refusal) -> Taken
     ensures { Taking (refused (refusal_number r)) list result }
 {
     Taken {
-        verdict: Verdict::Refused(r),
+        verdict: Err(r),
         kid: no_kid(),
         list: list,
     }
@@ -63,7 +63,7 @@ pub fn not_parted(list: NodeChildren, r: Refusal) -> Two
     ensures { Parting (refused (refusal_number r)) list (list_of []) result }
 {
     Two {
-        verdict: Verdict::Refused(r),
+        verdict: Err(r),
         left: list,
         right: empty(),
     }
@@ -96,12 +96,12 @@ impl NodeChildren {
         let n = self.len;
         if MAX_LEN <= n {
             return Listed {
-                verdict: Verdict::Refused(Refusal::Size),
+                verdict: Err(Refusal::Size),
                 list: self,
             };
         }
         Listed {
-            verdict: Verdict::Accepted,
+            verdict: Ok(()),
             list: put(front(self, n), item),
         }
     }
@@ -118,7 +118,7 @@ impl NodeChildren {
             return none_taken(self, Refusal::Size);
         }
         Taken {
-            verdict: Verdict::Accepted,
+            verdict: Ok(()),
             kid: child(self, n - 1),
             list: front(self, n - 1),
         }
@@ -131,18 +131,18 @@ impl NodeChildren {
         let n = self.len;
         if n < idx {
             return Listed {
-                verdict: Verdict::Refused(Refusal::Place),
+                verdict: Err(Refusal::Place),
                 list: self,
             };
         }
         if MAX_LEN <= n {
             return Listed {
-                verdict: Verdict::Refused(Refusal::Size),
+                verdict: Err(Refusal::Size),
                 list: self,
             };
         }
         Listed {
-            verdict: Verdict::Accepted,
+            verdict: Ok(()),
             list: insert_at(self, idx, item),
         }
     }
@@ -162,7 +162,7 @@ impl NodeChildren {
             return none_taken(self, Refusal::Size);
         }
         Taken {
-            verdict: Verdict::Accepted,
+            verdict: Ok(()),
             kid: child(self, idx),
             list: remove_at(self, idx),
         }
@@ -180,7 +180,7 @@ impl NodeChildren {
             return not_parted(self, Refusal::Size);
         }
         Two {
-            verdict: Verdict::Accepted,
+            verdict: Ok(()),
             left: front(self, idx),
             right: rest(self, idx),
         }

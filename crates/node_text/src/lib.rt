@@ -5,11 +5,11 @@
 
 ghost use Rattle.std.specs.Prelude.{◌≡◌, [], ◌∷◌, length};
 ghost use Rattle.plain.specs.Outcome.{ruled};
-ghost use Rattle.answer.specs.Answers.{number};
+ghost use Rattle.answer.specs.Answers.{outcome};
 ghost use Rattle.leaf_bytes.specs.Leaf.{leaf_of, Leaf};
 ghost use Rattle.node_text.specs.Texts.{off_chars, no_text, edited};
 
-use answer::{Number, Refusal};
+use answer::{Answer, Refusal};
 
 // How many bytes the leaf has: no more than its region.
 pub fn held(region: &[u8], len: usize) -> usize
@@ -22,35 +22,32 @@ pub fn held(region: &[u8], len: usize) -> usize
 }
 
 // Whether [start, end) of a leaf lies between chars: refused by 3, and by 5 where the leaf or the piece is no text.
-pub fn checked(leaf: &[u8], start: usize, end: usize, piece: &[u8]) -> Number
-    ensures { number result ≡ ruled (off_chars leaf.now start end ∷ no_text leaf.now piece.now ∷ []) (length leaf.now) }
+pub fn checked(leaf: &[u8], start: usize, end: usize, piece: &[u8]) -> Answer<usize>
+    ensures { outcome result ≡ ruled (off_chars leaf.now start end ∷ no_text leaf.now piece.now ∷ []) (length leaf.now) }
 {
     if end < start {
-        return Number::Refused(Refusal::Place);
+        return Err(Refusal::Place);
     }
     if !str_indices::chars::is_boundary(leaf, start) {
-        return Number::Refused(Refusal::Place);
+        return Err(Refusal::Place);
     }
     if !str_indices::chars::is_boundary(leaf, end) {
-        return Number::Refused(Refusal::Place);
+        return Err(Refusal::Place);
     }
     if !utf8::valid(leaf) {
-        return Number::Refused(Refusal::Text);
+        return Err(Refusal::Text);
     }
     if !utf8::valid(piece) {
-        return Number::Refused(Refusal::Text);
+        return Err(Refusal::Text);
     }
-    Number::Is(leaf.len())
+    Ok(leaf.len())
 }
 
 // The bytes [start, end) of a leaf give way to a piece.
-pub fn edit(region: &mut [u8], len: usize, start: usize, end: usize, piece: &[u8]) -> Number
+pub fn edit(region: &mut [u8], len: usize, start: usize, end: usize, piece: &[u8]) -> Answer<usize>
     ensures { Leaf (edited region.old len start end piece.now) region.old result region.new }
 {
     let n = held(region, len);
-    let fits = checked(&region[..n], start, end, piece);
-    let Number::Is(_) = fits else {
-        return fits;
-    };
+    checked(&region[..n], start, end, piece)?;
     leaf_bytes::replace(region, len, start, end, piece)
 }

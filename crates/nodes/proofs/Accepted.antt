@@ -1,4 +1,5 @@
 -- Which calls on a node are accepted, and what an accepted one gives: the text, the memory, and the nodes that are then read there.
+use Rattle.std.specs.Prelude.{Ok, Err}
 use mathlib.Core.Path.{◌≡◌, refl, sym, ap, subst, ◌∙◌}
 use mathlib.Core.Bool.{Bool, true, false, not, ◌||◌}
 use mathlib.Core.List.{List, [], ◌∷◌, ◌++◌, append-nil}
@@ -15,9 +16,6 @@ use Rattle.plain.proofs.Logic.{or-none}
 use Rattle.plain.proofs.Outcome.{rule-passed, one-passed, accepted, all-accepted, passed}
 use Rattle.plain.proofs.Place.{boundary-0, boundary_end}
 use Rattle.answer.specs.declared.Refusal.{Refusal}
-use Rattle.answer.specs.declared.Number.TheVariants as Number·case
-use Rattle.answer.specs.declared.Sides.TheVariants as Sides·case
-use Rattle.answer.specs.declared.Verdict.TheVariants as Verdict·case
 use Rattle.leaf_bytes.specs.Leaf.{over}
 use Rattle.leaf_bytes.specs.Split.{half_split}
 use Rattle.leaf_bytes.specs.Raw.{cut_at, over_sides}
@@ -82,7 +80,7 @@ module _ (c : NodeChildren) where
 
 module _ (m : List ℕ) (s : ℕ) (c : NodeChildren) where
   -- THEOREM: an accepted call wrote the list (and where it fits, `stored_is` of `Rules`)
-  pub store-accepted : (after : List ℕ) → Wrote (stored m s c) m Verdict·case.Accepted after → (slot_start s + 640 ≤ length m) × (c.len ≤ 16) × (after ≡ list_put m s c)
+  pub store-accepted : (after : List ℕ) → Wrote (stored m s c) m (Ok tt) after → (slot_start s + 640 ≤ length m) × (c.len ≤ 16) × (after ≡ list_put m s c)
   unfolding stored
   store-accepted after w =
       let v = list_put m s c in
@@ -90,12 +88,12 @@ module _ (m : List ℕ) (s : ℕ) (c : NodeChildren) where
       let b = accepted 11 (past c.len 16) [] v after a.1 in
       (inside m s a.0, ltb-false 16 c.len b.0, sym (all-accepted v after b.1))
     where
-      go : (o : Outcome (List ℕ)) → Wrote o m Verdict·case.Accepted after → o ≡ value after
+      go : (o : Outcome (List ℕ)) → Wrote o m (Ok tt) after → o ≡ value after
       go (value l) w = ap (λ (x : List ℕ). value x) (sym w.memory)
       go (refused n) w = absurd (never n tt (sym w.answered))
 
   -- THEOREM: what was stored is loaded
-  pub stored_loaded : (after : List ℕ) → Wrote (stored m s c) m Verdict·case.Accepted after → Fitting c.arr → loaded after s ≡ value (list_of (kids c))
+  pub stored_loaded : (after : List ℕ) → Wrote (stored m s c) m (Ok tt) after → Fitting c.arr → loaded after s ≡ value (list_of (kids c))
   stored_loaded after w f =
       let h = store-accepted after w in
       let l = list_put m s c in
@@ -124,10 +122,10 @@ module _ (m : List ℕ) (s i e : ℕ) (piece : List ℕ) where
       go false z = absurd (never 2 t (sym (edit-none m s i e piece z) ∙ h))
 
   -- THEOREM: an accepted edit leaves the edited text, and nothing else changes
-  pub edit-accepted : (n : ℕ) (after : List ℕ) → LeafWrote (leaf_edited m s i e piece) m s (Number·case.Is n) after → EditedLeaf m s i e piece n after
+  pub edit-accepted : (n : ℕ) (after : List ℕ) → LeafWrote (leaf_edited m s i e piece) m s (Ok n) after → EditedLeaf m s i e piece n after
   edit-accepted n after w = go (leaf_edited m s i e piece) refl w
     where
-      go : (o : Outcome (List ℕ)) → leaf_edited m s i e piece ≡ o → LeafWrote o m s (Number·case.Is n) after → EditedLeaf m s i e piece n after
+      go : (o : Outcome (List ℕ)) → leaf_edited m s i e piece ≡ o → LeafWrote o m s (Ok n) after → EditedLeaf m s i e piece n after
       go (refused k) z w = absurd (never k n (sym w.answered))
       go (value t) z w =
           let g = edited-leaf t z in
@@ -150,7 +148,7 @@ module _ (m : List ℕ) (s i e : ℕ) (piece : List ℕ) where
           }
 
 -- THEOREM: a refused edit keeps the memory
-pub edit-kept : (o : Outcome (List ℕ)) (m : List ℕ) (s : ℕ) (q : Refusal) (after : List ℕ) → LeafWrote o m s (Number·case.Refused q) after → after ≡ m
+pub edit-kept : (o : Outcome (List ℕ)) (m : List ℕ) (s : ℕ) (q : Refusal) (after : List ℕ) → LeafWrote o m s (Err q) after → after ≡ m
 edit-kept (value t) m s q after w = absurd (never _ (length t) w.answered)
 edit-kept (refused n) m s q after w = w.memory
 
@@ -188,10 +186,10 @@ module _ (m : List ℕ) (s i : ℕ) (piece : List ℕ) (right : ℕ) where
       go false z f o d = absurd (f (halve-none m s i piece right z))
 
   -- THEOREM: an accepted insertion with a split leaves two leaves, and nothing else changes
-  pub halve-accepted : (l r : ℕ) (after : List ℕ) → LeavesWrote (leaf_halved m s i piece right) m s right (Sides·case.Are l r) after → HalvedLeaf m s i piece right l r after
+  pub halve-accepted : (l r : ℕ) (after : List ℕ) → LeavesWrote (leaf_halved m s i piece right) m s right (Ok (l, r)) after → HalvedLeaf m s i piece right l r after
   halve-accepted l r after w = go (leaf_halved m s i piece right) refl w
     where
-      go : (o : Outcome (List ℕ × List ℕ)) → leaf_halved m s i piece right ≡ o → LeavesWrote o m s right (Sides·case.Are l r) after → HalvedLeaf m s i piece right l r after
+      go : (o : Outcome (List ℕ × List ℕ)) → leaf_halved m s i piece right ≡ o → LeavesWrote o m s right (Ok (l, r)) after → HalvedLeaf m s i piece right l r after
       go (refused k) z w = absurd (never k (l, r) (sym w.answered))
       go (value t) z w =
           let g = halved-leaf t z in
@@ -227,7 +225,7 @@ module _ (m : List ℕ) (s i : ℕ) (piece : List ℕ) (right : ℕ) where
           }
 
 -- THEOREM: a refused one keeps the memory
-pub halve-kept : (o : Outcome (List ℕ × List ℕ)) (m : List ℕ) (s right : ℕ) (q : Refusal) (after : List ℕ) → LeavesWrote o m s right (Sides·case.Refused q) after → after ≡ m
+pub halve-kept : (o : Outcome (List ℕ × List ℕ)) (m : List ℕ) (s right : ℕ) (q : Refusal) (after : List ℕ) → LeavesWrote o m s right (Err q) after → after ≡ m
 halve-kept (value t) m s right q after w = absurd (never _ (length t.0, length t.1) w.answered)
 halve-kept (refused n) m s right q after w = w.memory
 

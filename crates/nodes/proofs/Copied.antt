@@ -1,4 +1,5 @@
 -- What the calls on leaves come to, from what `head_of` and the calls of the layers below answered.
+use Rattle.std.specs.Prelude.{Err}
 use mathlib.Core.Path.{◌≡◌, refl, sym, ap, subst, ◌∙◌}
 use mathlib.Core.Bool.{true, false, not}
 use mathlib.Core.List.{List, [], ◌∷◌}
@@ -10,13 +11,9 @@ use borrow.Author.Tests.{lt-ltb, le-ltb, eq-eqb, ne_eqb}
 use Rattle.plain.specs.Outcome.{Outcome, Outcome.value, Outcome.refused, ruled, past}
 use Rattle.plain.proofs.Logic.{and_none}
 use Rattle.plain.proofs.Outcome.{rule-passed, rule-applies, one-applies, one-passed}
-use Rattle.answer.specs.Answers.{refusal_number}
+use Rattle.answer.specs.Answers.{refusal_number, Answer}
 use Rattle.answer.specs.declared.Refusal.{Refusal}
-use Rattle.answer.specs.declared.Number.{Number}
-use Rattle.answer.specs.declared.Number.TheVariants as Number·case
 use Rattle.answer.specs.declared.Refusal.TheVariants.{Output}
-use Rattle.answer.specs.declared.Sides.{Sides}
-use Rattle.answer.specs.declared.Sides.TheVariants as Sides·case
 use Rattle.leaf_bytes.specs.Leaf.{leaf_of, Leaf}
 use Rattle.leaf_bytes.specs.Raw.{replacing}
 use Rattle.leaf_bytes.proofs.Rules.{leaf-refused, leaf-same}
@@ -35,10 +32,10 @@ module _ (m : List ℕ) (s n : ℕ) (out : List ℕ) where
   abbrev promised : Outcome (List ℕ)
   promised = ruled ((9, past n (length out)) ∷ []) (leaf_of (region_of m s) n)
 
-  pub copy-short : length out < n → Leaf promised out (Number·case.Refused Output) out
-  copy-short h = leaf-refused promised out (Number·case.Refused Output) 9 (one-applies 9 (past n (length out)) (leaf_of (region_of m s) n) (lt-ltb (length out) n h)) refl
+  pub copy-short : length out < n → Leaf promised out (Err Output) out
+  copy-short h = leaf-refused promised out (Err Output) 9 (one-applies 9 (past n (length out)) (leaf_of (region_of m s) n) (lt-ltb (length out) n h)) refl
 
-  pub copy_done : n ≤ length out → n ≤ 512 → slot_start s + 640 ≤ length m → (t : List ℕ) → t ≡ take n (region_of m s) → (r : Number) (after : List ℕ)
+  pub copy_done : n ≤ length out → n ≤ 512 → slot_start s + 640 ≤ length m → (t : List ℕ) → t ≡ take n (region_of m s) → (r : Answer ℕ) (after : List ℕ)
       → Leaf (replacing out 0 0 0 t) out r after → Leaf promised out r after
   copy_done h k i t e r after w =
       let size : length t ≡ n = ap length e ∙ length-take-le n (region_of m s) (omega (arith, region-length m s i)) in
@@ -47,7 +44,7 @@ module _ (m : List ℕ) (s n : ℕ) (out : List ℕ) where
 
 -- ── a leaf's text read ──
 
-pub read_done : (m : List ℕ) (s n : ℕ) (out : List ℕ) (r : Number) (after : List ℕ) → is_leaf m s ≡ true → len_of m s ≡ n
+pub read_done : (m : List ℕ) (s n : ℕ) (out : List ℕ) (r : Answer ℕ) (after : List ℕ) → is_leaf m s ≡ true → len_of m s ≡ n
     → Leaf (ruled ((9, past n (length out)) ∷ []) (leaf_of (region_of m s) n)) out r after → Leaf (text_read m s (length out)) out r after
 unfolding text_read
 read_done m s n out r after e z w =
@@ -59,20 +56,20 @@ read_done m s n out r after e z w =
     ∙ sym (rule-passed 2 (not (is_leaf m s)) ((9, past (length (text_of m s)) (length out)) ∷ []) (text_of m s) (ap not e))) w
 
 pub read-not : (m : List ℕ) (s : ℕ) (out : List ℕ) (q : Refusal) → is_leaf m s ≡ false → refusal_number q ≡ 2
-    → Leaf (text_read m s (length out)) out (Number·case.Refused q) out
+    → Leaf (text_read m s (length out)) out (Err q) out
 unfolding text_read
 read-not m s out q e z =
-    leaf-refused (text_read m s (length out)) out (Number·case.Refused q) 2
+    leaf-refused (text_read m s (length out)) out (Err q) 2
     (rule-applies 2 (not (is_leaf m s)) ((9, past (length (text_of m s)) (length out)) ∷ []) (text_of m s) (ap not e)) (ap (λ (k : ℕ). refused k) z)
 
 -- ── a leaf edited ──
 
 module _ (o : Outcome (List ℕ)) (m : List ℕ) (s : ℕ) where
-  pub wrote_as : (p : Outcome (List ℕ)) (r : Number) (after : List ℕ) → o ≡ p → LeafWrote p m s r after → LeafWrote o m s r after
+  pub wrote_as : (p : Outcome (List ℕ)) (r : Answer ℕ) (after : List ℕ) → o ≡ p → LeafWrote p m s r after → LeafWrote o m s r after
   wrote_as p r after e w = subst (λ (q : Outcome (List ℕ)). LeafWrote q m s r after) (sym e) w
 
-  pub wrote-not : (q : Refusal) → o ≡ refused (refusal_number q) → LeafWrote o m s (Number·case.Refused q) m
-  wrote-not q e = wrote_as (refused (refusal_number q)) (Number·case.Refused q) m e (record { answered = refl; memory = refl })
+  pub wrote-not : (q : Refusal) → o ≡ refused (refusal_number q) → LeafWrote o m s (Err q) m
+  wrote-not q e = wrote_as (refused (refusal_number q)) (Err q) m e (record { answered = refl; memory = refl })
 
 module _ (m : List ℕ) (s i e : ℕ) (piece : List ℕ) where
   pub replace-is : (n : ℕ) → is_leaf m s ≡ true → len_of m s ≡ n → leaf_replaced m s i e piece ≡ replacing (region_of m s) n i e piece
@@ -112,10 +109,10 @@ module _ (m : List ℕ) (s i : ℕ) (piece : List ℕ) (right : ℕ) where
   halve-none h = rw h
 
   pub halve-refused : (q : Refusal) → leaf_halved m s i piece right ≡ refused 2 → refusal_number q ≡ 2
-      → LeavesWrote (leaf_halved m s i piece right) m s right (Sides·case.Refused q) m
+      → LeavesWrote (leaf_halved m s i piece right) m s right (Err q) m
   halve-refused q h z =
-      subst (λ (o : Outcome (List ℕ × List ℕ)). LeavesWrote o m s right (Sides·case.Refused q) m) (sym h) (record { answered = ap (λ (k : ℕ). refused k) z; memory = refl })
+      subst (λ (o : Outcome (List ℕ × List ℕ)). LeavesWrote o m s right (Err q) m) (sym h) (record { answered = ap (λ (k : ℕ). refused k) z; memory = refl })
 
-  pub halve-leaf : (n : ℕ) (r : Sides) (after : List ℕ) → is_leaf m s ≡ true → len_of m s ≡ n → outside m right ≡ false → (s ≡ right → ⊥)
+  pub halve-leaf : (n : ℕ) (r : Answer (ℕ × ℕ)) (after : List ℕ) → is_leaf m s ≡ true → len_of m s ≡ n → outside m right ≡ false → (s ≡ right → ⊥)
       → LeavesWrote (inserted_split (region_of m s) n i piece (region_of m right)) m s right r after → LeavesWrote (leaf_halved m s i piece right) m s right r after
   halve-leaf n r after h z o d w = subst (λ (p : Outcome (List ℕ × List ℕ)). LeavesWrote p m s right r after) (sym (halve-is n h z o d)) w

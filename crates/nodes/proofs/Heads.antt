@@ -1,24 +1,21 @@
 -- What kind of node a slot holds: from the tests of `Node` to facts and back, and what an answer of `head_of` says of it.
+use Rattle.std.specs.Prelude.{Ok, Err}
 use mathlib.Core.Path.{◌≡◌, refl, sym, ap, ◌∙◌}
 use mathlib.Core.Bool.{Bool, true, false, not, ◌&&◌, ◌||◌, true≢false}
 use mathlib.Core.List.{List, [], ◌∷◌}
-use mathlib.Core.Logic.{inl, inr}
 use Prim.Native.Nat.{ℕ, ◌+◌, ◌≤◌}
 use native.Mathlib.Omega.{arith}
 use lib.Dec.{eqb, leb}
 use lib.ListN.{length}
 use borrow.Author.Tests.{ltb-false, le-ltb, leb-true, le-leb, eqb-true, eq-eqb, not-true}
-use denote.Enum.Declared.{tag_of}
-use types.Run.{OneOf}
 use Rattle.plain.specs.Outcome.{Outcome.refused, ruled}
 use Rattle.plain.proofs.Logic.{and_left, and_right}
-use Rattle.answer.specs.Answers.{refusal_number}
+use Rattle.answer.specs.Answers.{refusal_number, Answer}
 use Rattle.answer.specs.declared.Refusal.{Refusal}
 use Rattle.pool.specs.declared.Head.{Head}
 use Rattle.pool.specs.declared.Head.TheVariants as Head·case
 use Rattle.pool.specs.Slot.{slot_start, kind_of, len_of, next_of}
 use Rattle.pool.specs.Calls.{outside, Held.free, Held.leaf, Held.list, held, held_by, wrong_head, head_of}
-use Rattle.pool.specs.contracts.Head.{the_type}
 use Rattle.pool.proofs.Opened.{head_opened}
 use Rattle.nodes.specs.Node.{is_leaf, is_list}
 
@@ -80,26 +77,26 @@ module _ (m : List ℕ) (s : ℕ) where
 
   -- ── what `head_of` answered ──
 
-  module _ (r : Head) (promise : held r ≡ head_of m s) where
-    pub head-leaf : (n : ℕ) → r ≡ Head·case.Leaf n → (is_leaf m s ≡ true) × (len_of m s ≡ n) × (n ≤ 512)
+  module _ (r : Answer Head) (promise : held r ≡ head_of m s) where
+    pub head-leaf : (n : ℕ) → r ≡ Ok (Head·case.Leaf n) → (is_leaf m s ≡ true) × (len_of m s ≡ n) × (n ≤ 512)
     head-leaf n e =
         let o = head_opened r m s (leaf n) promise (ap held e) in
         let f = o.1 in
         (leaf-is o.0 f.0 (omega arith), f.1, f.2)
 
-    pub head-list : (n : ℕ) → r ≡ Head·case.List n → (is_list m s ≡ true) × (len_of m s ≡ n) × (n ≤ 16)
+    pub head-list : (n : ℕ) → r ≡ Ok (Head·case.List n) → (is_list m s ≡ true) × (len_of m s ≡ n) × (n ≤ 16)
     head-list n e =
         let o = head_opened r m s (list n) promise (ap held e) in
         let f = o.1 in
         (list-is o.0 f.0 (omega arith), f.1, f.2)
 
-    pub head-free : (n : ℕ) → r ≡ Head·case.Free n → (is_leaf m s ≡ false) × (is_list m s ≡ false) × (kind_of m s ≡ 0) × (next_of m s ≡ n)
+    pub head-free : (n : ℕ) → r ≡ Ok (Head·case.Free n) → (is_leaf m s ≡ false) × (is_list m s ≡ false) × (kind_of m s ≡ 0) × (next_of m s ≡ n)
     head-free n e =
         let o = head_opened r m s (free n) promise (ap held e) in
         let k = o.1.0 in
         (no-leaf-kind (λ l. omega arith), no-list-kind (λ l. omega arith), k, o.1.1)
 
-    pub head-none : (q : Refusal) → r ≡ Head·case.Refused q → (is_leaf m s ≡ false) × (is_list m s ≡ false) × (refusal_number q ≡ 2)
+    pub head-none : (q : Refusal) → r ≡ Err q → (is_leaf m s ≡ false) × (is_list m s ≡ false) × (refusal_number q ≡ 2)
     unfolding head_of
     head-none q e =
         let o = one-refused 2 (outside m s || wrong_head (kind_of m s) (len_of m s)) (held_by (kind_of m s) (len_of m s) (next_of m s)) (refusal_number q) (sym (ap held e) ∙ promise) in
@@ -108,24 +105,12 @@ module _ (m : List ℕ) (s : ℕ) where
         (not_so (is_leaf m s) (λ t. true≢false (sym o.0 ∙ leaf t)), not_so (is_list m s) (λ t. true≢false (sym o.0 ∙ list t)), o.1)
 
     -- a head that is none of a leaf, and none of a list
-    pub head-no-leaf : OneOf (0 ∷ 2 ∷ 3 ∷ []) (tag_of the_type r) → is_leaf m s ≡ false
-    head-no-leaf k = go r refl k
-      where
-        go : (h : Head) → r ≡ h → OneOf (0 ∷ 2 ∷ 3 ∷ []) (tag_of the_type h) → is_leaf m s ≡ false
-        go (Head·case.Free n) e k = (head-free n e).0
-        go (Head·case.Leaf n) e (inl k) = absurd (omega arith)
-        go (Head·case.Leaf n) e (inr (inl k)) = absurd (omega arith)
-        go (Head·case.Leaf n) e (inr (inr k)) = absurd (omega arith)
-        go (Head·case.List n) e k = list-no-leaf (head-list n e).0
-        go (Head·case.Refused q) e k = (head-none q e).0
+    pub head-no-leaf : (h : Head) → r ≡ Ok h → ((n : ℕ) → h ≡ Head·case.Leaf n → ⊥) → is_leaf m s ≡ false
+    head-no-leaf (Head·case.Free n) e k = (head-free n e).0
+    head-no-leaf (Head·case.Leaf n) e k = absurd (k n refl)
+    head-no-leaf (Head·case.List n) e k = list-no-leaf (head-list n e).0
 
-    pub head-no-list : OneOf (0 ∷ 1 ∷ 3 ∷ []) (tag_of the_type r) → is_list m s ≡ false
-    head-no-list k = go r refl k
-      where
-        go : (h : Head) → r ≡ h → OneOf (0 ∷ 1 ∷ 3 ∷ []) (tag_of the_type h) → is_list m s ≡ false
-        go (Head·case.Free n) e k = (head-free n e).1
-        go (Head·case.Leaf n) e k = leaf-no-list (head-leaf n e).0
-        go (Head·case.List n) e (inl k) = absurd (omega arith)
-        go (Head·case.List n) e (inr (inl k)) = absurd (omega arith)
-        go (Head·case.List n) e (inr (inr k)) = absurd (omega arith)
-        go (Head·case.Refused q) e k = (head-none q e).1
+    pub head-no-list : (h : Head) → r ≡ Ok h → ((n : ℕ) → h ≡ Head·case.List n → ⊥) → is_list m s ≡ false
+    head-no-list (Head·case.Free n) e k = (head-free n e).1
+    head-no-list (Head·case.Leaf n) e k = leaf-no-list (head-leaf n e).0
+    head-no-list (Head·case.List n) e k = absurd (k n refl)

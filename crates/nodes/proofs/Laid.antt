@@ -1,5 +1,6 @@
 -- A text laid at the front of a slot's region, and the slot made a leaf: from what the calls of the layers below promise to the memory
 -- that `Calls` asks for.
+use Rattle.std.specs.Prelude.{Ok, Err}
 use mathlib.Core.Path.{◌≡◌, refl, sym, ap, subst, ◌∙◌}
 use mathlib.Core.Bool.{true, false, ◌||◌}
 use mathlib.Core.List.{List, [], ◌∷◌, ◌++◌, append_assoc, append-nil}
@@ -13,13 +14,8 @@ use Rattle.plain.specs.Edit.{replaced}
 use Rattle.plain.specs.Outcome.{Outcome, Outcome.value, Outcome.refused, past, kept}
 use Rattle.plain.proofs.Logic.{neither}
 use Rattle.plain.proofs.Outcome.{rule-passed, one-passed, accepted, all-accepted}
-use Rattle.answer.specs.Answers.{refusal_number, number, sides}
+use Rattle.answer.specs.Answers.{refusal_number, Answer, outcome}
 use Rattle.answer.specs.declared.Refusal.{Refusal}
-use Rattle.answer.specs.declared.Number.{Number}
-use Rattle.answer.specs.declared.Number.TheVariants as Number·case
-use Rattle.answer.specs.declared.Sides.{Sides}
-use Rattle.answer.specs.declared.Sides.TheVariants as Sides·case
-use Rattle.answer.specs.declared.Verdict.{Verdict}
 use Rattle.leaf_bytes.specs.Leaf.{leaf_of, over, laid, written, Leaf, Leaves}
 use Rattle.octets.specs.Over.{overlaid}
 use Rattle.leaf_bytes.specs.Raw.{replacing}
@@ -38,16 +34,16 @@ use Rattle.nodes.proofs.Heads.{not-outside, one-refused}
 -- ── a slot's region, lent ──
 
 -- that of a slot in the memory is never refused
-pub region-there : (r : Number) (m : List ℕ) (s : ℕ) (q : Refusal) → number r ≡ region_start m s → r ≡ Number·case.Refused q → slot_start s + 640 ≤ length m → ⊥
+pub region-there : (r : Answer ℕ) (m : List ℕ) (s : ℕ) (q : Refusal) → outcome r ≡ region_start m s → r ≡ Err q → slot_start s + 640 ≤ length m → ⊥
 unfolding region_start
-region-there r m s q p e h = never _ (slot_start s + 128) (sym (ap number e) ∙ p ∙ one-passed 2 (outside m s) (slot_start s + 128) (not-outside m s h))
+region-there r m s q p e h = never _ (slot_start s + 128) (sym (ap outcome e) ∙ p ∙ one-passed 2 (outside m s) (slot_start s + 128) (not-outside m s h))
 
 -- refused, its slot is outside; answered, inside
-pub region-outside : (r : Number) (m : List ℕ) (s : ℕ) (q : Refusal) → number r ≡ region_start m s → r ≡ Number·case.Refused q → (outside m s ≡ true) × (refusal_number q ≡ 2)
+pub region-outside : (r : Answer ℕ) (m : List ℕ) (s : ℕ) (q : Refusal) → outcome r ≡ region_start m s → r ≡ Err q → (outside m s ≡ true) × (refusal_number q ≡ 2)
 unfolding region_start
-region-outside r m s q p e = one-refused 2 (outside m s) (slot_start s + 128) (refusal_number q) (sym (ap number e) ∙ p)
+region-outside r m s q p e = one-refused 2 (outside m s) (slot_start s + 128) (refusal_number q) (sym (ap outcome e) ∙ p)
 
-pub region-inside : (r : Number) (m : List ℕ) (s a : ℕ) → number r ≡ region_start m s → r ≡ Number·case.Is a → outside m s ≡ false
+pub region-inside : (r : Answer ℕ) (m : List ℕ) (s a : ℕ) → outcome r ≡ region_start m s → r ≡ Ok a → outside m s ≡ false
 region-inside r m s a p e = not-outside m s (region-opened r m s a p e).0
 
 -- a text lent as `&m[a..a + n]`
@@ -102,9 +98,9 @@ pub record Gave (o : Outcome (List ℕ)) (before : List ℕ) (len : ℕ) (after 
   pub size : length text ≡ len
   pub region : after ≡ laid before text
 
-pub gave : (o : Outcome (List ℕ)) (before : List ℕ) (r : Number) (after : List ℕ) (len : ℕ) → Leaf o before r after → r ≡ Number·case.Is len → Gave o before len after
-gave (value t) before r after len w e = record { text = t; is = refl; size = (let p = w.answered in let q = ap number e in let z : len ≡ length t = cc in sym z); region = w.region }
-gave (refused n) before r after len w e = absurd (never n len (sym w.answered ∙ ap number e))
+pub gave : (o : Outcome (List ℕ)) (before : List ℕ) (r : Answer ℕ) (after : List ℕ) (len : ℕ) → Leaf o before r after → r ≡ Ok len → Gave o before len after
+gave (value t) before r after len w e = record { text = t; is = refl; size = (let p = w.answered in let q = ap outcome e in let z : len ≡ length t = cc in sym z); region = w.region }
+gave (refused n) before r after len w e = absurd (never n len (sym w.answered ∙ ap outcome e))
 
 pub record GaveTwo (o : Outcome (List ℕ × List ℕ)) (left right : List ℕ) (l r : ℕ) (left-after right-after : List ℕ) : Type 0 where
   pub text : List ℕ
@@ -115,10 +111,10 @@ pub record GaveTwo (o : Outcome (List ℕ × List ℕ)) (left right : List ℕ) 
   pub region : left-after ≡ laid left text
   pub other-region : right-after ≡ laid right other
 
-pub gave-two : (o : Outcome (List ℕ × List ℕ)) (left right : List ℕ) (a : Sides) (la ra : List ℕ) (l r : ℕ) → Leaves o left right a la ra → a ≡ Sides·case.Are l r → GaveTwo o left right l r la ra
+pub gave-two : (o : Outcome (List ℕ × List ℕ)) (left right : List ℕ) (a : Answer (ℕ × ℕ)) (la ra : List ℕ) (l r : ℕ) → Leaves o left right a la ra → a ≡ Ok (l, r) → GaveTwo o left right l r la ra
 gave-two (value t) left right a la ra l r w e =
     let p = w.answered in
-    let q = ap sides e in
+    let q = ap outcome e in
     let z : ◌≡◌ {A = ℕ × ℕ} (l, r) (length t.0, length t.1) = cc in
     record {
       text = t.0;
@@ -129,11 +125,11 @@ gave-two (value t) left right a la ra l r w e =
       region = w.left-region;
       other-region = w.right-region;
     }
-gave-two (refused n) left right a la ra l r w e = absurd (never n (l, r) (sym w.answered ∙ ap sides e))
+gave-two (refused n) left right a la ra l r w e = absurd (never n (l, r) (sym w.answered ∙ ap outcome e))
 
 -- ── a head set ──
 
-pub leaf-set : (m : List ℕ) (s len : ℕ) (v : Verdict) (after : List ℕ) → Wrote (head_set m s 1 len 512 0) m v after → slot_start s + 640 ≤ length m → len ≤ 512
+pub leaf-set : (m : List ℕ) (s len : ℕ) (v : Answer (Unit {0})) (after : List ℕ) → Wrote (head_set m s 1 len 512 0) m v after → slot_start s + 640 ≤ length m → len ≤ 512
     → after ≡ head_put m s 1 len 0
 unfolding head_set
 leaf-set m s len v after w h k =
@@ -162,34 +158,34 @@ module _ (m : List ℕ) (s : ℕ) (h : slot_start s + 640 ≤ length m) (a end :
   lent-size t y k e = ap length (lent-put t y k e) ∙ overlaid-length (slot_start s + 128) t m (omega arith)
 
   -- the text laid and the head set
-  pub leaf-made : (t y : List ℕ) (v : Verdict) (after : List ℕ) → length t ≤ 512 → y ≡ laid lent t
+  pub leaf-made : (t y : List ℕ) (v : Answer (Unit {0})) (after : List ℕ) → length t ≤ 512 → y ≡ laid lent t
       → Wrote (head_set (put_mid a (end - a) m y) s 1 (length t) 512 0) (put_mid a (end - a) m y) v after → after ≡ leaf_put m s t
   leaf-made t y v after k e w =
       leaf-set (put_mid a (end - a) m y) s (length t) v after w (omega (arith, lent-size t y k e)) k ∙ ap (λ (l : List ℕ). head_put l s 1 (length t) 0) (lent-put t y k e)
 
   -- a text put where nothing was, and the head set
-  pub lay_done : (t : List ℕ) (r : Number) (y : List ℕ) → length t ≤ 512 → Leaf (replacing lent 0 0 0 t) lent r y
-      → (v : Verdict) (after : List ℕ) → Wrote (head_set (put_mid a (end - a) m y) s 1 (length t) 512 0) (put_mid a (end - a) m y) v after → after ≡ leaf_put m s t
+  pub lay_done : (t : List ℕ) (r : Answer ℕ) (y : List ℕ) → length t ≤ 512 → Leaf (replacing lent 0 0 0 t) lent r y
+      → (v : Answer (Unit {0})) (after : List ℕ) → Wrote (head_set (put_mid a (end - a) m y) s 1 (length t) 512 0) (put_mid a (end - a) m y) v after → after ≡ leaf_put m s t
   lay_done t r y k w v after u =
       let room : length lent ≡ 512 = ap length (region-lent m s a end f g) ∙ region-length m s h in
       leaf-made t y v after k (w.region ∙ ap (written lent) (replacing-whole lent t k (omega arith))) u
 
   -- ── `replace_at` ──
 
-  module _ (n i e : ℕ) (piece : List ℕ) (r : Number) (y : List ℕ) (promise : Leaf (replacing lent n i e piece) lent r y) where
+  module _ (n i e : ℕ) (piece : List ℕ) (r : Answer ℕ) (y : List ℕ) (promise : Leaf (replacing lent n i e piece) lent r y) where
     now-region : Leaf (replacing (region_of m s) n i e piece) (region_of m s) r y
     now-region = subst (λ (b : List ℕ). Leaf (replacing b n i e piece) b r y) (region-lent m s a end f g) promise
 
-    pub replace-not : (q : Refusal) → r ≡ Number·case.Refused q → LeafWrote (replacing (region_of m s) n i e piece) m s r (put_mid a (end - a) m y)
+    pub replace-not : (q : Refusal) → r ≡ Err q → LeafWrote (replacing (region_of m s) n i e piece) m s r (put_mid a (end - a) m y)
     replace-not q z = go (replacing (region_of m s) n i e piece) now-region
       where
         go : (o : Outcome (List ℕ)) → Leaf o (region_of m s) r y → LeafWrote o m s r (put_mid a (end - a) m y)
-        go (value t) w = absurd (never _ (length t) (sym (ap number z) ∙ w.answered))
+        go (value t) w = absurd (never _ (length t) (sym (ap outcome z) ∙ w.answered))
         go (refused k) w = record { answered = w.answered; memory = lent_same y (w.region ∙ sym (region-lent m s a end f g)) }
 
-    pub replace-set : (len : ℕ) (v : Verdict) (after : List ℕ) → r ≡ Number·case.Is len
+    pub replace-set : (len : ℕ) (v : Answer (Unit {0})) (after : List ℕ) → r ≡ Ok len
         → Wrote (head_set (put_mid a (end - a) m y) s 1 len 512 0) (put_mid a (end - a) m y) v after
-        → LeafWrote (replacing (region_of m s) n i e piece) m s (Number·case.Is len) after
+        → LeafWrote (replacing (region_of m s) n i e piece) m s (Ok len) after
     replace-set len v after z w =
         let d = gave (replacing (region_of m s) n i e piece) (region_of m s) r y len now-region z in
         let t = d.text in
@@ -197,5 +193,5 @@ module _ (m : List ℕ) (s : ℕ) (h : slot_start s + 640 ≤ length m) (a end :
         let l : y ≡ laid lent t = d.region ∙ ap (λ (b : List ℕ). laid b t) (sym (region-lent m s a end f g)) in
         let u : Wrote (head_set (put_mid a (end - a) m y) s 1 (length t) 512 0) (put_mid a (end - a) m y) v after =
         subst (λ (k : ℕ). Wrote (head_set (put_mid a (end - a) m y) s 1 k 512 0) (put_mid a (end - a) m y) v after) (sym d.size) w in
-        subst (λ (o : Outcome (List ℕ)). LeafWrote o m s (Number·case.Is len) after) (sym d.is)
+        subst (λ (o : Outcome (List ℕ)). LeafWrote o m s (Ok len) after) (sym d.is)
         (record { answered = ap (λ (k : ℕ). value k) (sym d.size); memory = leaf-made t y v after small l u })

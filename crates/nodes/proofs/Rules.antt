@@ -1,4 +1,5 @@
 -- From what the code found to the rules of `Calls`: what each of its paths makes of a call.
+use Rattle.std.specs.Prelude.{Ok, Err}
 use mathlib.Core.Path.{◌≡◌, refl, sym, ap, subst, ◌∙◌}
 use mathlib.Core.Bool.{Bool, true, false, not}
 use mathlib.Core.List.{List, [], ◌∷◌, ◌++◌}
@@ -12,17 +13,13 @@ use Rattle.plain.specs.Utf8.{valid_utf8, decode}
 use Rattle.plain.specs.Outcome.{Outcome, Outcome.value, Outcome.refused, Rule, ruled, past, kept}
 use Rattle.plain.proofs.Logic.{cut, or-none}
 use Rattle.plain.proofs.Outcome.{rule-applies, rule-passed, one-applies, one-passed, passed, more-refused, more-passed}
-use Rattle.answer.specs.Answers.{refusal_number, verdict}
+use Rattle.answer.specs.Answers.{refusal_number, Answer, outcome}
 use Rattle.answer.specs.declared.Refusal.{Refusal}
-use Rattle.answer.specs.declared.Verdict.{Verdict}
-use Rattle.answer.specs.declared.Verdict.TheVariants as Verdict·case
 use Rattle.leaf_bytes.specs.Leaf.{leaf_of}
 use Rattle.leaf_bytes.proofs.Opened.{never}
-use Rattle.text_info.specs.Info.{info, info_of, leaf_info}
+use Rattle.text_info.specs.Info.{info_of, leaf_info}
 use Rattle.text_info.specs.declared.TextInfo.{TextInfo}
 use Rattle.text_info.specs.declared.TextSum.{TextSum}
-use Rattle.text_info.specs.declared.Info.{Info}
-use Rattle.text_info.specs.declared.Info.TheVariants as Info·case
 use Rattle.pool.specs.declared.Kid.{Kid}
 use Rattle.pool.specs.Slot.{slot_start, len_of, region_of, entries, no_kid, Fits, head_put, kid_put}
 use Rattle.pool.specs.Calls.{outside, no_entry, head_set, kid_set, Wrote}
@@ -31,11 +28,10 @@ use Rattle.pool.proofs.Rules.{wrote-done}
 use Rattle.pool.proofs.Slots.{head-size}
 use Rattle.node_children.specs.declared.NodeChildren.{NodeChildren}
 use Rattle.node_children.specs.declared.Listed.{Listed}
-use Rattle.child_search.specs.declared.Found.{Found}
 use Rattle.child_search.specs.declared.Measure.{Measure}
 use Rattle.node_children.specs.Kids.{kids, list_of, Listing}
 use Rattle.node_children.specs.Calls.{too_long}
-use Rattle.child_search.specs.Sought.{found, searched, searched_in}
+use Rattle.child_search.specs.Sought.{searched, searched_in}
 use Rattle.child_search.proofs.Reading.{searched-child}
 use Rattle.child_search.proofs.Walk.{few-is}
 use Rattle.node_children.proofs.Lists.{kids-of, is-kids, put_holds}
@@ -77,31 +73,31 @@ pub few-counted : (c : NodeChildren) → c.len ≤ 16 → list_counted c ≡ rul
 unfolding list_counted ruled
 few-counted c h = rw (le-ltb 16 c.len h)
 
-module _ (c : NodeChildren) (s : TextSum) (all : s ≡ total_of (kids c)) (i : Info) (promise : info i ≡ ruled ((2, too_wide s) ∷ []) (narrowed s)) where
+module _ (c : NodeChildren) (s : TextSum) (all : s ≡ total_of (kids c)) (i : Answer TextInfo) (promise : outcome i ≡ ruled ((2, too_wide s) ∷ []) (narrowed s)) where
   abbrev wide : List Rule
   wide = (2, too_wide (total_of (kids c))) ∷ []
 
   abbrev v : TextInfo
   v = narrowed (total_of (kids c))
 
-  early : info i ≡ ruled wide v
+  early : outcome i ≡ ruled wide v
   early = promise ∙ ap (λ (t : TextSum). ruled ((2, too_wide t) ∷ []) (narrowed t)) all
 
-  pub sum-refused : (q : Refusal) → i ≡ Info·case.Refused q → info i ≡ list_counted c
+  pub sum-refused : (q : Refusal) → i ≡ Err q → outcome i ≡ list_counted c
   unfolding list_counted
-  sum-refused q e = ap info e ∙ sym (more-refused wide (too_long c.len ∷ []) v v (refusal_number q) (sym early ∙ ap info e))
+  sum-refused q e = ap outcome e ∙ sym (more-refused wide (too_long c.len ∷ []) v v (refusal_number q) (sym early ∙ ap outcome e))
 
-  module _ (t : TextInfo) (e : i ≡ Info·case.Is t) where
+  module _ (t : TextInfo) (e : i ≡ Ok t) where
     rest : list_counted c ≡ ruled (too_long c.len ∷ []) v
     unfolding list_counted
-    rest = more-passed wide (too_long c.len ∷ []) v t v (sym early ∙ ap info e)
+    rest = more-passed wide (too_long c.len ∷ []) v t v (sym early ∙ ap outcome e)
 
     pub sum-long : 16 < c.len → refused 11 ≡ list_counted c
     sum-long h = sym (rest ∙ one-applies 11 (past c.len 16) v (lt-ltb 16 c.len h))
 
-    pub sum_is : c.len ≤ 16 → info i ≡ list_counted c
+    pub sum_is : c.len ≤ 16 → outcome i ≡ list_counted c
     sum_is h =
-        ap info e ∙ ap (λ (x : TextInfo). value x) (passed wide v t (sym early ∙ ap info e)).1 ∙ sym (rest ∙ one-passed 11 (past c.len 16) v (le-ltb 16 c.len h))
+        ap outcome e ∙ ap (λ (x : TextInfo). value x) (passed wide v t (sym early ∙ ap outcome e)).1 ∙ sym (rest ∙ one-passed 11 (past c.len 16) v (le-ltb 16 c.len h))
 
 -- ── a list read ──
 
@@ -154,7 +150,7 @@ module _ (m : List ℕ) (s : ℕ) where
         let y : ◌≡◌ {A = Outcome (ℕ × TextSum)} (refused n) (refused 2) = ap (λ (k : ℕ). refused k) z in
         y ∙ sym (search-not e)
 
-    pub search-done : (n : ℕ) (f : Found) → is_list m s ≡ true → len_of m s ≡ n → found f ≡ searched_in m s n by at → found f ≡ list_searched m s by at
+    pub search-done : (n : ℕ) (f : Answer (ℕ × TextSum)) → is_list m s ≡ true → len_of m s ≡ n → outcome f ≡ searched_in m s n by at → outcome f ≡ list_searched m s by at
     search-done n f e z p =
         let l = list-says m s e in
         p
@@ -181,7 +177,7 @@ module _ (m : List ℕ) (s : ℕ) where
   two-rules true u a e = refl
   two-rules false u a e = rw e
 
-  pub counted-leaf : (n : ℕ) (i : Info) → is_leaf m s ≡ true → len_of m s ≡ n → n ≤ 512 → info i ≡ leaf_info (leaf_of (region_of m s) n) → info i ≡ counted m s
+  pub counted-leaf : (n : ℕ) (i : Answer TextInfo) → is_leaf m s ≡ true → len_of m s ≡ n → n ≤ 512 → outcome i ≡ leaf_info (leaf_of (region_of m s) n) → outcome i ≡ counted m s
   unfolding leaf_info counted lost ill counts_of
   counted-leaf n i e z h p =
       p
@@ -193,7 +189,7 @@ module _ (m : List ℕ) (s : ℕ) where
   unfolding list_of
   short ks h = few-counted (list_of ks) h ∙ ap (λ (xs : List Kid). ruled ((2, too_wide (total_of xs)) ∷ []) (narrowed (total_of xs))) (kids-of ks)
 
-  pub counted-list : (n : ℕ) (i : Info) → is_list m s ≡ true → len_of m s ≡ n → n ≤ 16 → info i ≡ list_counted (list_of (take n (entries (region_of m s)))) → info i ≡ counted m s
+  pub counted-list : (n : ℕ) (i : Answer TextInfo) → is_list m s ≡ true → len_of m s ≡ n → n ≤ 16 → outcome i ≡ list_counted (list_of (take n (entries (region_of m s)))) → outcome i ≡ counted m s
   unfolding list_counted counted lost ill counts_of ruled
   counted-list n i e z h p =
       p
@@ -233,7 +229,7 @@ kid_is m s i k h l =
     let p = kid_put m s i k in
     rule-passed 2 (outside m s) (no_entry i ∷ []) p (not-outside m s h) ∙ one-passed 3 (past i 15) p (le-ltb 15 i (omega arith))
 
-pub kid-set : (m : List ℕ) (s i : ℕ) (k : Kid) (v : Verdict) (after : List ℕ) → Wrote (kid_set m s i k) m v after → slot_start s + 640 ≤ length m → i < 16
+pub kid-set : (m : List ℕ) (s i : ℕ) (k : Kid) (v : Answer (Unit {0})) (after : List ℕ) → Wrote (kid_set m s i k) m v after → slot_start s + 640 ≤ length m → i < 16
     → after ≡ kid_put m s i k
 kid-set m s i k v after w h l = w.memory ∙ ap (λ (o : Outcome (List ℕ)). kept m o) (kid_is m s i k h l)
 
@@ -243,19 +239,19 @@ fits-turn ks i f k j h = cut j i (λ l. f j l) (λ l. let z : i ≡ j = omega ar
 -- ── a list stored ──
 
 same-refusal : (a b : Bool) (x : List ℕ) (y : List ℕ) (m : List ℕ) (q : Refusal) (after : List ℕ)
-    → Wrote (ruled ((2, a) ∷ (11, b) ∷ []) x) m (Verdict·case.Refused q) after → Wrote (ruled ((2, a) ∷ (11, b) ∷ []) y) m (Verdict·case.Refused q) after
+    → Wrote (ruled ((2, a) ∷ (11, b) ∷ []) x) m (Err q) after → Wrote (ruled ((2, a) ∷ (11, b) ∷ []) y) m (Err q) after
 unfolding ruled
 same-refusal true b x y m q after w = w
 same-refusal false true x y m q after w = w
 same-refusal false false x y m q after w = absurd (never (refusal_number q) tt w.answered)
 
 module _ (m : List ℕ) (s : ℕ) (c : NodeChildren) where
-  pub store-not : (q : Refusal) (v : Verdict) (after : List ℕ) → Wrote (head_set m s 2 c.len 16 0) m v after → v ≡ Verdict·case.Refused q
+  pub store-not : (q : Refusal) (v : Answer (Unit {0})) (after : List ℕ) → Wrote (head_set m s 2 c.len 16 0) m v after → v ≡ Err q
       → Wrote (stored m s c) m v after × Fitted v c.arr
   unfolding head_set stored
   store-not q v after w e =
-      let u = subst (λ (x : Verdict). Wrote (head_set m s 2 c.len 16 0) m x after) e w in
-      subst (λ (x : Verdict). Wrote (stored m s c) m x after × Fitted x c.arr) (sym e)
+      let u = subst (λ (x : Answer (Unit {0})). Wrote (head_set m s 2 c.len 16 0) m x after) e w in
+      subst (λ (x : Answer (Unit {0})). Wrote (stored m s c) m x after × Fitted x c.arr) (sym e)
       (same-refusal (outside m s) (past c.len 16) (head_put m s 2 c.len 0) (list_put m s c) m q after u, tt)
 
   pub stored_is : slot_start s + 640 ≤ length m → c.len ≤ 16 → stored m s c ≡ value (list_put m s c)
@@ -263,18 +259,18 @@ module _ (m : List ℕ) (s : ℕ) (c : NodeChildren) where
   stored_is h k =
       rule-passed 2 (outside m s) (too_long c.len ∷ []) (list_put m s c) (not-outside m s h) ∙ one-passed 11 (past c.len 16) (list_put m s c) (le-ltb 16 c.len k)
 
-  pub store-done : (v : Verdict) (l : List ℕ) (u : Verdict) (after : List ℕ) → Wrote (head_set m s 2 c.len 16 0) m v l → v ≡ Verdict·case.Accepted → verdict u ≡ value tt
+  pub store-done : (v : Answer (Unit {0})) (l : List ℕ) (u : Answer (Unit {0})) (after : List ℕ) → Wrote (head_set m s 2 c.len 16 0) m v l → v ≡ (Ok tt) → outcome u ≡ value tt
       → after ≡ kids_put l s 0 c.arr → Fitting c.arr → Wrote (stored m s c) m u after × Fitted u c.arr
   store-done v l u after w g a e f =
-      let h = head-wrote m s 2 c.len 16 0 l (subst (λ (x : Verdict). Wrote (head_set m s 2 c.len 16 0) m x l) g w) in
+      let h = head-wrote m s 2 c.len 16 0 l (subst (λ (x : Answer (Unit {0})). Wrote (head_set m s 2 c.len 16 0) m x l) g w) in
       (wrote-done (stored m s c) m u (list_put m s c) after (stored_is h.0 h.1) a (e ∙ ap (λ (b : List ℕ). kids_put b s 0 c.arr) h.2), fitted u)
     where
-      fitted : (u : Verdict) → Fitted u c.arr
-      fitted Verdict·case.Accepted = f
-      fitted (Verdict·case.Refused q) = tt
+      fitted : (u : Answer (Unit {0})) → Fitted u c.arr
+      fitted (Ok tt) = f
+      fitted (Err q) = tt
 
   -- the slot is there still when the entries are written
-  pub head-there : (v : Verdict) (l : List ℕ) → Wrote (head_set m s 2 c.len 16 0) m v l → v ≡ Verdict·case.Accepted → outside l s ≡ false
+  pub head-there : (v : Answer (Unit {0})) (l : List ℕ) → Wrote (head_set m s 2 c.len 16 0) m v l → v ≡ (Ok tt) → outside l s ≡ false
   head-there v l w e =
-      let h = head-wrote m s 2 c.len 16 0 l (subst (λ (x : Verdict). Wrote (head_set m s 2 c.len 16 0) m x l) e w) in
+      let h = head-wrote m s 2 c.len 16 0 l (subst (λ (x : Answer (Unit {0})). Wrote (head_set m s 2 c.len 16 0) m x l) e w) in
       not-outside l s (omega (arith, ap length h.2 ∙ head-size m s 2 c.len 0 h.0))

@@ -1,11 +1,7 @@
 -- What the calls on a node come to: document 01's refusals, the answers, and the memory afterwards.
-use Rattle.std.specs.Prelude.{◌≡◌, not, ◌&&◌, cond, List, [], ◌∷◌, ℕ, eqb, length}
+use Rattle.answer.specs.Answers.{Answer, outcome}
+use Rattle.std.specs.Prelude.{◌≡◌, not, ◌&&◌, cond, List, [], ◌∷◌, ℕ, eqb, length, Ok, Err}
 use Rattle.plain.specs.Outcome.{Outcome, Outcome.refused, ruled, past, kept, mapped}
-use Rattle.answer.specs.Answers.{number, sides}
-use Rattle.answer.specs.declared.Number.{Number}
-use Rattle.answer.specs.declared.Sides.{Sides}
-use Rattle.answer.specs.declared.Verdict.{Verdict}
-use Rattle.answer.specs.declared.Verdict.TheVariants as Verdict·case
 use Rattle.leaf_bytes.specs.Raw.{replacing}
 use Rattle.node_text.specs.Texts.{edited, inserted_split}
 use Rattle.text_info.specs.declared.TextInfo.{TextInfo}
@@ -36,9 +32,9 @@ unfolding ruled
 stored m s c = ruled ((2, outside m s) ∷ too_long c.len ∷ []) (list_put m s c)
 
 -- the entries that an accepted call wrote have numbers of 32 bits
-abbrev pub Fitted : Verdict → List Kid → Type 0
-Fitted Verdict·case.Accepted ks = Fitting ks
-Fitted (Verdict·case.Refused q) ks = Unit {0}
+abbrev pub Fitted : Answer (Unit {0}) → List Kid → Type 0
+Fitted (Ok tt) ks = Fitting ks
+Fitted (Err q) ks = Unit {0}
 
 -- the counts of a list's children: of a list that is too long, of the sixteen that are there
 unfoldable pub list_counted : NodeChildren → Outcome TextInfo
@@ -72,11 +68,11 @@ leaf_halved m slot i piece right =
     (inserted_split (region_of m slot) (len_of m slot) i piece (region_of m right)) (refused 2)
 
 -- A call that gives a leaf another text: how long that is, and every byte afterwards.
-pub record LeafWrote (o : Outcome (List ℕ)) (before : List ℕ) (slot : ℕ) (r : Number) (after : List ℕ) : Type 0 where
-  pub answered : number r ≡ mapped (λ t. length t) o
+pub record LeafWrote (o : Outcome (List ℕ)) (before : List ℕ) (slot : ℕ) (r : Answer ℕ) (after : List ℕ) : Type 0 where
+  pub answered : outcome r ≡ mapped (λ t. length t) o
   pub memory : after ≡ kept before (mapped (λ t. leaf_put before slot t) o)
 
 -- A call that makes two leaves.
-pub record LeavesWrote (o : Outcome (List ℕ × List ℕ)) (before : List ℕ) (slot right : ℕ) (r : Sides) (after : List ℕ) : Type 0 where
-  pub answered : sides r ≡ mapped (λ t. (length t.0, length t.1)) o
+pub record LeavesWrote (o : Outcome (List ℕ × List ℕ)) (before : List ℕ) (slot right : ℕ) (r : Answer (ℕ × ℕ)) (after : List ℕ) : Type 0 where
+  pub answered : outcome r ≡ mapped (λ t. (length t.0, length t.1)) o
   pub memory : after ≡ kept before (mapped (λ t. leaf_put (leaf_put before slot t.0) right t.1) o)

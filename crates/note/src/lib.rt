@@ -5,10 +5,10 @@
 
 ghost use Rattle.std.specs.Prelude.{[]};
 ghost use Rattle.plain_calls.specs.Calls.{inserting, removing};
-ghost use Rattle.answer.specs.Answers.{change};
+ghost use Rattle.answer.specs.Answers.{outcome};
 ghost use Rattle.note_promise.specs.Called.{EditCalled};
 
-use answer::{Change, Verdict};
+use answer::Answer;
 use marks::follow;
 use str_indices::chars;
 
@@ -38,35 +38,31 @@ pub use mark_calls::{drop_mark, mark_line, mark_place, set_mark};
 // ── edits: how many lines more the note has ──
 
 // A piece put in at a place. Marks at or behind it move on, and the edit number rises; an empty piece changes nothing at all.
-pub fn insert(m: &mut [u8], p: usize, piece: &[u8]) -> Change
-    ensures { EditCalled (λ N. inserting N p piece.now) p p piece.now m.old (change result) m.new }
+pub fn insert(m: &mut [u8], p: usize, piece: &[u8]) -> Answer<i64>
+    ensures { EditCalled (λ N. inserting N p piece.now) p p piece.now m.old (outcome result) m.new }
 {
     let done = note_edits::insert(m, p, piece);
-    let Change::By(_) = done else {
+    let Ok(_) = done else {
         return done;
     };
     if piece.len() == 0 {
         return done;
     }
-    match follow(m, p, p, chars::count(piece) as u32) {
-        Verdict::Refused(r) => Change::Refused(r),
-        Verdict::Accepted => done,
-    }
+    follow(m, p, p, chars::count(piece) as u32)?;
+    done
 }
 
 // The chars of [s, e) taken out. Marks among them go to s, those behind move back, and the edit number rises; an empty range changes nothing at all.
-pub fn remove(m: &mut [u8], s: usize, e: usize) -> Change
-    ensures { EditCalled (λ N. removing N s e) s e [] m.old (change result) m.new }
+pub fn remove(m: &mut [u8], s: usize, e: usize) -> Answer<i64>
+    ensures { EditCalled (λ N. removing N s e) s e [] m.old (outcome result) m.new }
 {
     let done = note_edits::remove(m, s, e);
-    let Change::By(_) = done else {
+    let Ok(_) = done else {
         return done;
     };
     if s == e {
         return done;
     }
-    match follow(m, s, e, 0) {
-        Verdict::Refused(r) => Change::Refused(r),
-        Verdict::Accepted => done,
-    }
+    follow(m, s, e, 0)?;
+    done
 }

@@ -1,11 +1,10 @@
 -- What C is told, from what the calls answer.
+use Rattle.answer.specs.Answers.{Answer, outcome}
 use mathlib.Core.Path.{◌≡◌, refl, ap, ◌∙◌}
 use mathlib.Core.List.{List}
 use Prim.Native.Nat.{ℕ}
 use lib.ListN.{length}
 use Rattle.plain.specs.Outcome.{Outcome, Outcome.value, Outcome.refused, part, kept, mapped}
-use Rattle.answer.specs.Answers.{number}
-use Rattle.answer.specs.declared.Number.{Number}
 use Rattle.leaf_bytes.specs.Leaf.{Leaf}
 use Rattle.plain_note.specs.Note.{read_from, previewed}
 use Rattle.memory.specs.Formed.{of_note}
@@ -15,7 +14,7 @@ use Rattle.told.proofs.Laws.{mapped-code}
 use Rattle.note_c.specs.Told.{Copied}
 
 -- bytes that were copied
-pub copied-told : (o : Outcome (List ℕ)) (out after : List ℕ) (x y r : ℕ) (a : Number) → Leaf o out a after → Told (number a) x r y → Copied o out x r after y
+pub copied-told : (o : Outcome (List ℕ)) (out after : List ℕ) (x y r : ℕ) (a : Answer ℕ) → Leaf o out a after → Told (outcome a) x r y → Copied o out x r after y
 copied-told o out after x y r a h t = record {
   coded = t.coded ∙ (ap code h.answered ∙ mapped-code length o);
   output = h.region;

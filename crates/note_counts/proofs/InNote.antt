@@ -1,4 +1,6 @@
 -- From the leaf to the note: an index that a search found to lie in a leaf, turned there into another count.
+use Rattle.answer.specs.Answers.{Answer, outcome}
+use Rattle.std.specs.Prelude.{Ok, Err}
 use mathlib.Core.Path.{◌≡◌, refl, sym, ap, ◌∙◌}
 use mathlib.Core.Bool.{Bool, true, false, ◌&&◌}
 use mathlib.Core.List.{List, [], ◌++◌}
@@ -23,9 +25,7 @@ use Rattle.child_search.specs.Sought.{stops_at, most_of, plus_info}
 use Rattle.nodes.specs.Node.{text_of}
 use Rattle.tree.specs.Tree.{bytes_below, sum_of, sound, least_root, told_right, plus_sum}
 use Rattle.tree.proofs.Counts.{breaks-valid}
-use Rattle.tree_search.specs.declared.Spot.{Spot}
-use Rattle.tree_search.specs.declared.Spot.TheVariants as Spot·case
-use Rattle.tree_search.specs.Search.{spot, count_in, leaf_at, PartedAt}
+use Rattle.tree_search.specs.Search.{count_in, leaf_at, PartedAt}
 use Rattle.tree_search.proofs.Nested.{told-by}
 use Rattle.tree_search.proofs.Parted.{Ends, ends, chars-parted}
 use Rattle.note_head.specs.Head.{root_of, height_of}
@@ -167,16 +167,16 @@ module _ (m : List ℕ) (right : tree_right m ≡ true) where
     found : Ends m (height_of m) (root_of m).slot (by_of from) i
     found = ends m (by_of from) (height_of m) (root_of m).slot i (least_root (height_of m)) (omega arith) root-sound (omega (arith, most-of from (decode (note_bytes m))))
 
-    module _ (h s : ℕ) (by : Search.Measure) (height : h ≡ height_of m) (slot : s ≡ (root_of m).slot) (way : by ≡ by_of from) (r : Spot) (promise : spot r ≡ leaf_at m h s by i) where
-      spot_is : spot r ≡ value (found.leaf, found.left)
+    module _ (h s : ℕ) (by : Search.Measure) (height : h ≡ height_of m) (slot : s ≡ (root_of m).slot) (way : by ≡ by_of from) (r : Answer (ℕ × TextSum)) (promise : outcome r ≡ leaf_at m h s by i) where
+      spot_is : outcome r ≡ value (found.leaf, found.left)
       spot_is = promise ∙ rw (height, slot, way) found.is
 
-      pub never : (q : Refusal) → r ≡ Spot·case.Refused q → ⊥
-      never q e = let g = sym (ap spot e) ∙ spot_is in let z : ◌≡◌ {A = ℕ} 0 1 = cc in omega arith
+      pub never : (q : Refusal) → r ≡ Err q → ⊥
+      never q e = let g = sym (ap outcome e) ∙ spot_is in let z : ◌≡◌ {A = ℕ} 0 1 = cc in omega arith
 
-      pub lies : (leaf : ℕ) (left : TextSum) → r ≡ Spot·case.At leaf left → Lies leaf left
+      pub lies : (leaf : ℕ) (left : TextSum) → r ≡ Ok (leaf, left) → Lies leaf left
       lies leaf left e =
-          let g = sym (ap spot e) ∙ spot_is in
+          let g = sym (ap outcome e) ∙ spot_is in
           let z : ◌≡◌ {A = ℕ × TextSum} (leaf, left) (found.leaf, found.left) = cc in
           let x : leaf ≡ found.leaf = ap (λ (f : ℕ × TextSum). f.0) z in
           let y : left ≡ found.left = ap (λ (f : ℕ × TextSum). f.1) z in

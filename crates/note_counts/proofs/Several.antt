@@ -1,4 +1,5 @@
 -- Several indices: whether one is past its end, each turned in its place, and what that comes to on the note.
+use Rattle.std.specs.List.{list_any}
 use mathlib.Core.Path.{◌≡◌, refl, sym, ap, subst, ◌∙◌}
 use mathlib.Core.Bool.{Bool, true, false, ◌||◌, false≢true}
 use mathlib.Core.List.{List, [], ◌∷◌, ◌++◌, append-nil, map}
@@ -6,9 +7,9 @@ use Prim.Native.Nat.{ℕ, zero, suc, ◌+◌, ◌≤◌, ◌<◌}
 use native.Mathlib.Omega.{arith}
 use lib.ListN.{length, get_or, set, take, drop, length-set, drop_of_length-le}
 use lib.Seq.{drop-cons, append_snoc, take_all, take-suc-set, drop-set-lt}
-use borrow.Author.Tests.{lt-ltb, le-ltb, ltb-false}
+use borrow.Author.Tests.{ltb-false}
 use Rattle.plain.specs.Outcome.{Outcome, Outcome.value, Outcome.refused, past, mapped}
-use Rattle.plain.proofs.Logic.{or_left, neither}
+use Rattle.plain.proofs.Logic.{neither}
 use Rattle.plain.proofs.Outcome.{one-applies, one-passed}
 use Rattle.plain_note.specs.Note.{Note, most_by, converted}
 use Rattle.note_counts.specs.declared.Count.{Count}
@@ -24,25 +25,10 @@ any-cons : (end i : ℕ) (is : List ℕ) → any_past end (i ∷ is) ≡ (past i
 unfolding any_past
 any-cons end i is = refl
 
-module _ (end : ℕ) (is : List ℕ) where
-  -- those from k on decide
-  abbrev pub Left : ℕ → Type 0
-  Left k = any_past end is ≡ any_past end (drop k is)
-
-  module _ (k : ℕ) (inside : k < length is) where
-    next : any_past end (drop k is) ≡ (past (get_or is k 0) end || any_past end (drop (suc k) is))
-    next = ap (any_past end) (drop-cons is k 0 inside) ∙ any-cons end (get_or is k 0) (drop (suc k) is)
-
-    pub past-here : end < get_or is k 0 → Left k → true ≡ any_past end is
-    past-here h l = sym (l ∙ next ∙ or_left _ _ (lt-ltb end (get_or is k 0) h))
-
-    pub past_next : get_or is k 0 ≤ end → Left k → Left (k + 1)
-    past_next h l =
-        let z : suc k ≡ k + 1 = omega arith in
-        l ∙ next ∙ ap (λ (t : Bool). t || any_past end (drop (suc k) is)) (le-ltb end (get_or is k 0) h) ∙ ap (λ (j : ℕ). any_past end (drop j is)) z
-
-  pub past-none : (k : ℕ) → length is ≤ k → Left k → false ≡ any_past end is
-  past-none k h l = sym (l ∙ ap (any_past end) (drop_of_length-le is h) ∙ any_none end)
+pub any-listed : (end : ℕ) (is : List ℕ) → list_any (λ i. past i end) is ≡ any_past end is
+unfolding any_past
+any-listed end [] = refl
+any-listed end (i ∷ is) = ap (λ (t : Bool). past i end || t) (any-listed end is)
 
 -- where none is, each lies within
 pub each_within : (end : ℕ) (is : List ℕ) → any_past end is ≡ false → (j : ℕ) → j < length is → get_or is j 0 ≤ end

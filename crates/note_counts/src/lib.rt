@@ -7,7 +7,7 @@ mod leaf;
 ghost use Rattle.std.specs.Prelude.{◌≡◌, true, false, map, ◌+◌, ◌*◌, ◌≤◌, ◌<◌, length, get_or, set};
 ghost use Rattle.plain.specs.Utf8.{valid_utf8, decode};
 ghost use Rattle.plain.specs.Outcome.{Outcome.value};
-ghost use Rattle.answer.specs.Answers.{number, verdict};
+ghost use Rattle.answer.specs.Answers.{outcome};
 ghost use Rattle.plain_note.specs.Note.{most_by, converted};
 ghost use Rattle.child_search.specs.Sought.{Within};
 ghost use Rattle.pool.specs.Calls.{Wrote};
@@ -16,11 +16,11 @@ ghost use Rattle.tree_search.specs.Search.{count_in};
 ghost use Rattle.memory.specs.Formed.{tree_right, note_in, of_note};
 ghost use Rattle.note_counts.specs.Counts.{measure, by_of, most_in, turned_in, any_past, converted_all};
 
-use answer::{Number, Refusal, Verdict};
+use answer::{Answer, Refusal};
 use child_search::Measure;
 use pool::{Head, head_of, region_start};
 use text_info::{TextInfo, TextSum};
-use tree_search::{Spot, leaf_at};
+use tree_search::leaf_at;
 
 // What an index counts.
 #[derive(Clone, Copy)]
@@ -90,45 +90,35 @@ fn most(m: &[u8], by: Count) -> usize
 }
 
 // An index turned into another count, in the leaf of a slot.
-fn in_leaf(m: &[u8], slot: usize, from: Count, to: Count, idx: usize) -> Number
+fn in_leaf(m: &[u8], slot: usize, from: Count, to: Count, idx: usize) -> Answer<usize>
     requires { (is_leaf m.now slot ≡ true) × (valid_utf8 (text_of m.now slot) ≡ true) }
-    ensures { (number result ≡ value (turned_in from to (decode (text_of m.now slot)) idx)) × (turned_in from to (decode (text_of m.now slot)) idx ≤ 1024) }
+    ensures { (outcome result ≡ value (turned_in from to (decode (text_of m.now slot)) idx)) × (turned_in from to (decode (text_of m.now slot)) idx ≤ 1024) }
 {
-    let Head::Leaf(n) = head_of(m, slot) else {
-        return Number::Refused(Refusal::Memory);
+    let Head::Leaf(n) = head_of(m, slot)? else {
+        return Err(Refusal::Memory);
     };
-    let start = region_start(m, slot);
-    let Number::Is(at) = start else {
-        return start;
-    };
-    Number::Is(leaf::turn(&m[at..at + n], from, to, idx))
+    let at = region_start(m, slot)?;
+    Ok(leaf::turn(&m[at..at + n], from, to, idx))
 }
 
 // An index that is not past its end, turned into another count.
-fn turned(m: &[u8], from: Count, to: Count, idx: usize) -> Number
+fn turned(m: &[u8], from: Count, to: Count, idx: usize) -> Answer<usize>
     requires { (tree_right m.now ≡ true) × (idx ≤ most_by (measure from) (note_in m.now).text) }
-    ensures { number result ≡ value (turned_in from to (note_in m.now).text idx) }
+    ensures { outcome result ≡ value (turned_in from to (note_in m.now).text idx) }
 {
     let root = note_head::root(m);
-    match leaf_at(m, note_head::height(m), wide(root.slot), by_of(from), idx) {
-        Spot::Refused(r) => Number::Refused(r),
-        Spot::At(slot, left) => {
-            let inside = in_leaf(m, slot, from, to, idx - count_in(from, left));
-            let Number::Is(n) = inside else {
-                return inside;
-            };
-            Number::Is(count_in(to, left) + n)
-        }
-    }
+    let (slot, left) = leaf_at(m, note_head::height(m), wide(root.slot), by_of(from), idx)?;
+    let n = in_leaf(m, slot, from, to, idx - count_in(from, left))?;
+    Ok(count_in(to, left) + n)
 }
 
 // The same of any index: refused by 3 where it is past its end.
-fn converted_in(m: &[u8], from: Count, to: Count, idx: usize) -> Number
+fn converted_in(m: &[u8], from: Count, to: Count, idx: usize) -> Answer<usize>
     requires { tree_right m.now ≡ true }
-    ensures { number result ≡ converted (measure from) (measure to) (note_in m.now) idx }
+    ensures { outcome result ≡ converted (measure from) (measure to) (note_in m.now) idx }
 {
     if most(m, from) < idx {
-        return Number::Refused(Refusal::Place);
+        return Err(Refusal::Place);
     }
     turned(m, from, to, idx)
 }
@@ -139,53 +129,37 @@ fn converted_in(m: &[u8], from: Count, to: Count, idx: usize) -> Number
 fn any_past(indices: &[usize], highest: usize) -> bool
     ensures { result ≡ any_past highest indices.now }
 {
-    let mut k: usize = 0;
-    while k < indices.len() {
-        if highest < indices[k] {
-            return true;
-        }
-        k += 1;
-    }
-    false
+    indices.iter().any(|i| highest < *i)
 }
 
 // The one at k turned.
-fn turn_at(m: &[u8], from: Count, to: Count, indices: &mut [usize], k: usize) -> Verdict
+fn turn_at(m: &[u8], from: Count, to: Count, indices: &mut [usize], k: usize) -> Answer<()>
     requires { (tree_right m.now ≡ true) × (k < length indices.old) × (get_or indices.old k 0 ≤ most_by (measure from) (note_in m.now).text) }
-    ensures { (verdict result ≡ value tt) × (indices.new ≡ set indices.old k (turned_in from to (note_in m.now).text (get_or indices.old k 0))) }
+    ensures { (outcome result ≡ value tt) × (indices.new ≡ set indices.old k (turned_in from to (note_in m.now).text (get_or indices.old k 0))) }
 {
-    match turned(m, from, to, indices[k]) {
-        Number::Refused(r) => Verdict::Refused(r),
-        Number::Is(n) => {
-            indices[k] = n;
-            Verdict::Accepted
-        }
-    }
+    let n = turned(m, from, to, indices[k])?;
+    indices[k] = n;
+    Ok(())
 }
 
 // All of them turned, none of which is past its end.
-fn turn_all(m: &[u8], from: Count, to: Count, indices: &mut [usize]) -> Verdict
+fn turn_all(m: &[u8], from: Count, to: Count, indices: &mut [usize]) -> Answer<()>
     requires { (tree_right m.now ≡ true) × (any_past (most_by (measure from) (note_in m.now).text) indices.old ≡ false) }
-    ensures { (verdict result ≡ value tt) × (indices.new ≡ map (turned_in from to (note_in m.now).text) indices.old) }
+    ensures { (outcome result ≡ value tt) × (indices.new ≡ map (turned_in from to (note_in m.now).text) indices.old) }
 {
-    let mut k: usize = 0;
-    while k < indices.len() {
-        let done = turn_at(m, from, to, indices, k);
-        let Verdict::Accepted = done else {
-            return done;
-        };
-        k += 1;
+    for k in 0..indices.len() {
+        turn_at(m, from, to, indices, k)?;
     }
-    Verdict::Accepted
+    Ok(())
 }
 
 // The same of any indices: refused by 3 where one is past its end, and none is turned.
-fn converted_all_in(m: &[u8], from: Count, to: Count, indices: &mut [usize]) -> Verdict
+fn converted_all_in(m: &[u8], from: Count, to: Count, indices: &mut [usize]) -> Answer<()>
     requires { tree_right m.now ≡ true }
     ensures { Wrote (converted_all from to indices.old (note_in m.now)) indices.old result indices.new }
 {
     if any_past(indices, most(m, from)) {
-        return Verdict::Refused(Refusal::Place);
+        return Err(Refusal::Place);
     }
     turn_all(m, from, to, indices)
 }
@@ -193,31 +167,31 @@ fn converted_all_in(m: &[u8], from: Count, to: Count, indices: &mut [usize]) -> 
 // ── the lent memory ──
 
 // An index of one count turned into another.
-pub fn convert(m: &[u8], from: Count, to: Count, idx: usize) -> Number
-    ensures { number result ≡ of_note m.now (λ N. converted (measure from) (measure to) N idx) }
+pub fn convert(m: &[u8], from: Count, to: Count, idx: usize) -> Answer<usize>
+    ensures { outcome result ≡ of_note m.now (λ N. converted (measure from) (measure to) N idx) }
 {
     if !memory::check(m) {
-        return Number::Refused(Refusal::Memory);
+        return Err(Refusal::Memory);
     }
     converted_in(note_head::own_part(m), from, to, idx)
 }
 
 // Indices of one count turned into another, in their places, under one check of the memory. Where one is past its end, none is turned.
-pub fn convert_all(m: &[u8], from: Count, to: Count, indices: &mut [usize]) -> Verdict
+pub fn convert_all(m: &[u8], from: Count, to: Count, indices: &mut [usize]) -> Answer<()>
     ensures { Wrote (of_note m.now (converted_all from to indices.old)) indices.old result indices.new }
 {
     if !memory::check(m) {
-        return Verdict::Refused(Refusal::Memory);
+        return Err(Refusal::Memory);
     }
     converted_all_in(note_head::own_part(m), from, to, indices)
 }
 
 // A length of the note.
-pub fn length_by(m: &[u8], by: Count) -> Number
-    ensures { number result ≡ of_note m.now (λ N. value (most_by (measure by) N.text)) }
+pub fn length_by(m: &[u8], by: Count) -> Answer<usize>
+    ensures { outcome result ≡ of_note m.now (λ N. value (most_by (measure by) N.text)) }
 {
     if !memory::check(m) {
-        return Number::Refused(Refusal::Memory);
+        return Err(Refusal::Memory);
     }
-    Number::Is(most(note_head::own_part(m), by))
+    Ok(most(note_head::own_part(m), by))
 }

@@ -1,5 +1,6 @@
 -- The calls of the crate splices on a memory that holds a note: a piece put in where its side asks, chars that give way to a piece inside one leaf,
 -- and some chars before a place taken out.
+use Rattle.std.specs.Prelude.{Ok, Err}
 use mathlib.Core.Path.{◌≡◌, refl, sym, ap, subst, ◌∙◌}
 use mathlib.Core.Bool.{Bool, true, false, cond}
 use mathlib.Core.List.{List, [], ◌∷◌}
@@ -11,14 +12,8 @@ use Rattle.plain.specs.Utf8.{decode}
 use Rattle.plain.specs.Count.{cr_last}
 use Rattle.plain.specs.Edit.{replaced, put_in, cut_out}
 use Rattle.plain.specs.Outcome.{Outcome.value, Outcome.refused}
-use Rattle.answer.specs.Answers.{refusal_number, number, truth, verdict}
+use Rattle.answer.specs.Answers.{refusal_number, Answer, outcome}
 use Rattle.answer.specs.declared.Refusal.{Refusal}
-use Rattle.answer.specs.declared.Number.{Number}
-use Rattle.answer.specs.declared.Number.TheVariants as Number·case
-use Rattle.answer.specs.declared.Truth.{Truth}
-use Rattle.answer.specs.declared.Truth.TheVariants as Truth·case
-use Rattle.answer.specs.declared.Verdict.{Verdict}
-use Rattle.answer.specs.declared.Verdict.TheVariants as Verdict·case
 use Rattle.child_search.specs.declared.Measure.{Measure}
 use Rattle.child_search.specs.declared.Measure.TheVariants.{Chars, CharEnds}
 use Rattle.tree.proofs.Counts.{valid-nil}
@@ -64,8 +59,8 @@ module _ (m : List ℕ) (p : ℕ) (piece : List ℕ) (w : Puts m p piece) where
       turned_same m (put_in p (decode piece) (text_in m)) w.holds
       (sym (ap (λ (l : List ℕ). put_in p (decode l) (text_in m)) z ∙ ap (λ (l : List ℕ). put_in p l (text_in m)) none-decoded ∙ take-append-drop p (text_in m)))
 
-  pub put-turned : (by : Measure) → by ≡ side_of (text_in m) p → (r : Verdict) (after : List ℕ) → Did verdict (put_at m by p piece) r after
-      → (verdict r ≡ value tt) × Turned m (put_in p (decode piece) (text_in m)) after
+  pub put-turned : (by : Measure) → by ≡ side_of (text_in m) p → (r : Answer (Unit {0})) (after : List ℕ) → Did outcome (put_at m by p piece) r after
+      → (outcome r ≡ value tt) × Turned m (put_in p (decode piece) (text_in m)) after
   put-turned by e r after d =
       let o = put-held m (n_of m) (note_bytes m) w.holds p piece w.valid w.short w.room by (subst (λ (b : Measure). Sided b (text_in m) p) (sym e) (sided (text_in m) p)) w.here in
       let z : after ≡ o.later = d.memory ∙ ap (λ (x : Act (Unit {0})). x.1) o.is in (
@@ -75,13 +70,13 @@ module _ (m : List ℕ) (p : ℕ) (piece : List ℕ) (w : Puts m p piece) where
 
 -- ── what was accepted is not refused ──
 
-pub never : {X : Type 0} (r : Verdict) → verdict r ≡ value tt → (q : Refusal) → r ≡ Verdict·case.Refused q → X
-never r a q e = absurd (let z : refused (refusal_number q) ≡ value tt = sym (ap verdict e) ∙ a in let y : ◌≡◌ {A = ℕ} 0 1 = cc in omega arith)
+pub never : {X : Type 0} (r : Answer (Unit {0})) → outcome r ≡ value tt → (q : Refusal) → r ≡ Err q → X
+never r a q e = absurd (let z : refused (refusal_number q) ≡ value tt = sym (ap outcome e) ∙ a in let y : ◌≡◌ {A = ℕ} 0 1 = cc in omega arith)
 
 -- ── chars that give way to a piece inside one leaf ──
 
-module _ (m : List ℕ) (p k : ℕ) (piece : List ℕ) (w : Puts m p piece) (way : (piece ≡ []) ⊎ (k ≡ 0)) (r : Truth) (after : List ℕ)
-    (d : Did truth (inside_at m p k piece) r after) where
+module _ (m : List ℕ) (p k : ℕ) (piece : List ℕ) (w : Puts m p piece) (way : (piece ≡ []) ⊎ (k ≡ 0)) (r : Answer Bool) (after : List ℕ)
+    (d : Did outcome (inside_at m p k piece) r after) where
   pub inside-tried : Tried m (replaced (p - k) p (decode piece) (text_in m)) r after
   inside-tried =
       ⊎_elim
@@ -96,13 +91,13 @@ module _ (m : List ℕ) (p k : ℕ) (piece : List ℕ) (w : Puts m p piece) (way
       (inside-held m (n_of m) (note_bytes m) w.holds p k piece w.valid w.short way w.room w.here)
 
 -- what the answer says of it
-module _ (m cs : List ℕ) (r : Truth) (after : List ℕ) (p : Tried m cs r after) where
-  pub tried-never : {X : Type 0} (q : Refusal) → r ≡ Truth·case.Refused q → X
-  tried-never q e = absurd (let z : refused (refusal_number q) ≡ value p.done = sym (ap truth e) ∙ p.told in let y : ◌≡◌ {A = ℕ} 0 1 = cc in omega arith)
+module _ (m cs : List ℕ) (r : Answer Bool) (after : List ℕ) (p : Tried m cs r after) where
+  pub tried-never : {X : Type 0} (q : Refusal) → r ≡ Err q → X
+  tried-never q e = absurd (let z : refused (refusal_number q) ≡ value p.done = sym (ap outcome e) ∙ p.told in let y : ◌≡◌ {A = ℕ} 0 1 = cc in omega arith)
 
-  module _ (t : Bool) (e : r ≡ Truth·case.Is t) where
+  module _ (t : Bool) (e : r ≡ Ok t) where
     done-is : p.done ≡ t
-    done-is = let z : value p.done ≡ value t = sym p.told ∙ ap truth e in cc
+    done-is = let z : value p.done ≡ value t = sym p.told ∙ ap outcome e in cc
 
     pub was-done : t ≡ true → Turned m cs after
     was-done f = subst (λ (x : Bool). TurnedIf x m cs after) (done-is ∙ f) p.left
@@ -130,14 +125,14 @@ turned-again m l e f after t = subst (λ (x : List ℕ). Turned x (f (text_in x)
 -- ── chars taken out before a place ──
 
 -- so many of [s, e), at least one
-pub record Took (m : List ℕ) (s e : ℕ) (r : Number) (after : List ℕ) : Type 0 where
+pub record Took (m : List ℕ) (s e : ℕ) (r : Answer ℕ) (after : List ℕ) : Type 0 where
   pub count : ℕ
   pub some : 1 ≤ count
   pub most : count ≤ e - s
-  pub is : number r ≡ value count
+  pub is : outcome r ≡ value count
   pub left : Turned m (cut_out (e - count) e (text_in m)) after
 
-took_by : (m : List ℕ) (s e : ℕ) (r : Number) (after : List ℕ) → Did number (cut_at m e (e - s)) r after → CutHeld m (n_of m) (note_bytes m) e (e - s) → Took m s e r after
+took_by : (m : List ℕ) (s e : ℕ) (r : Answer ℕ) (after : List ℕ) → Did outcome (cut_at m e (e - s)) r after → CutHeld m (n_of m) (note_bytes m) e (e - s) → Took m s e r after
 took_by m s e r after d o =
     let z : after ≡ o.later = d.memory ∙ ap (λ (x : Act ℕ). x.1) o.is in
     record {
@@ -148,7 +143,7 @@ took_by m s e r after d o =
       left = subst (Turned m (cut_out (e - o.count) e (text_in m))) (sym z) (turned m o.later (n_of m) o.new (cut_out (e - o.count) e (text_in m)) o.held o.chars o.kept);
     }
 
-took : (m : List ℕ) (s e : ℕ) → Cuts m s e → s < e → (r : Number) (after : List ℕ) → Did number (cut_at m e (e - s)) r after → Took m s e r after
+took : (m : List ℕ) (s e : ℕ) → Cuts m s e → s < e → (r : Answer ℕ) (after : List ℕ) → Did outcome (cut_at m e (e - s)) r after → Took m s e r after
 took m s e w h r after d =
     took_by m s e r after d
     (cut-held m (n_of m) (note_bytes m) w.holds e (e - s) (omega arith) (omega arith) (λ c l k. w.loose (e - c) (omega arith) (omega arith)) w.high)
@@ -156,17 +151,17 @@ took m s e w h r after d =
 -- ── a turn of the loop: [q, e) is out, and some of [s, q) goes ──
 
 module _ (m : List ℕ) (s e : ℕ) (w : Cuts m s e) (q : ℕ) (low : s ≤ q) (high : q ≤ e) (a : List ℕ) (t : Turned m (cut_out q e (text_in m)) a)
-    (some : s < q) (r : Number) (after : List ℕ) (d : Did number (cut_at a q (q - s)) r after) where
+    (some : s < q) (r : Answer ℕ) (after : List ℕ) (d : Did outcome (cut_at a q (q - s)) r after) where
   abbrev step : Took a s q r after
   step = took a s q (cut_on m s e w q low high a t) some r after d
 
   -- the answer is no refusal
-  pub turn-refused : {X : Type 0} (n : Refusal) → r ≡ Number·case.Refused n → X
-  turn-refused n f = absurd (let z : refused (refusal_number n) ≡ value step.count = sym (ap number f) ∙ step.is in let y : ◌≡◌ {A = ℕ} 0 1 = cc in omega arith)
+  pub turn-refused : {X : Type 0} (n : Refusal) → r ≡ Err n → X
+  turn-refused n f = absurd (let z : refused (refusal_number n) ≡ value step.count = sym (ap outcome f) ∙ step.is in let y : ◌≡◌ {A = ℕ} 0 1 = cc in omega arith)
 
-  module _ (c : ℕ) (f : r ≡ Number·case.Is c) where
+  module _ (c : ℕ) (f : r ≡ Ok c) where
     count-is : step.count ≡ c
-    count-is = let z : value step.count ≡ value c = sym step.is ∙ ap number f in cc
+    count-is = let z : value step.count ≡ value c = sym step.is ∙ ap outcome f in cc
 
     pub turn-some : (1 ≤ c) × (c ≤ q - s)
     turn-some = (omega (arith, step.some, count-is), omega (arith, step.most, count-is))

@@ -8,7 +8,7 @@ ghost use Rattle.plain.specs.Count.{cr_last, lf_first};
 ghost use Rattle.plain.specs.Edit.{replaced, put_in, cut_out};
 ghost use Rattle.plain.specs.Outcome.{Outcome.value};
 ghost use Rattle.plain_note.specs.Edits.{inserted, removed};
-ghost use Rattle.answer.specs.Answers.{verdict};
+ghost use Rattle.answer.specs.Answers.{outcome};
 ghost use Rattle.note_head.specs.Head.{root_of};
 ghost use Rattle.edit_steps.specs.Held.{Holds};
 ghost use Rattle.edit_promise.specs.Edited.{Edited};
@@ -16,7 +16,7 @@ ghost use Rattle.edit_promise.specs.Turned.{text_in, Turned, Puts, Cuts, Removes
 ghost use Rattle.note_edits.specs.Side.{side_of};
 ghost use Rattle.note_edits.specs.Tried.{Tried};
 
-use answer::{Change, Number, Truth, Verdict, difference};
+use answer::{Answer, difference};
 use child_search::Measure;
 use edit_rules::{insert_refusal, remove_refusal};
 use leaf_parts::from_char;
@@ -27,9 +27,7 @@ use splices::{put_in, splice_inside, take_out};
 fn breaks_of(m: &[u8]) -> u32
     ensures { result ≡ (root_of m.now).info.line_breaks }
 {
-    let kid = root(m);
-    let info = kid.info;
-    info.line_breaks
+    root(m).info.line_breaks
 }
 
 // Whether the char before a place is CR.
@@ -65,13 +63,14 @@ fn side(m: &[u8], p: usize) -> Measure
     ensures { result ≡ side_of (text_in m.now) p }
 {
     if behind_cr(m, p) {
-        return Measure::CharEnds;
+        Measure::CharEnds
+    } else {
+        Measure::Chars
     }
-    Measure::Chars
 }
 
 // k chars before a place give way to a piece at once, if they lie inside one leaf: whether they did.
-fn inside(m: &mut [u8], p: usize, k: usize, piece: &[u8]) -> Truth
+fn inside(m: &mut [u8], p: usize, k: usize, piece: &[u8]) -> Answer<bool>
     requires { Puts m.old p piece.now × ((piece.now ≡ []) ⊎ (k ≡ 0)) }
     ensures { Tried m.old (replaced (p - k) p (decode piece.now) (text_in m.old)) result m.new }
 {
@@ -79,127 +78,92 @@ fn inside(m: &mut [u8], p: usize, k: usize, piece: &[u8]) -> Truth
 }
 
 // A piece put in where CR and LF around the place decide on the leaf.
-fn insert_beside(m: &mut [u8], p: usize, piece: &[u8]) -> Verdict
+fn insert_beside(m: &mut [u8], p: usize, piece: &[u8]) -> Answer<()>
     requires { Puts m.old p piece.now }
-    ensures { (verdict result ≡ value tt) × Turned m.old (put_in p (decode piece.now) (text_in m.old)) m.new }
+    ensures { (outcome result ≡ value tt) × Turned m.old (put_in p (decode piece.now) (text_in m.old)) m.new }
 {
     let by = side(m, p);
     put_in(m, by, p, piece)
 }
 
 // A piece put into the note's part of the memory.
-fn insert_own(m: &mut [u8], p: usize, piece: &[u8]) -> Verdict
+fn insert_own(m: &mut [u8], p: usize, piece: &[u8]) -> Answer<()>
     requires { Puts m.old p piece.now }
-    ensures { (verdict result ≡ value tt) × Turned m.old (put_in p (decode piece.now) (text_in m.old)) m.new × (piece.now ≡ [] → m.new ≡ m.old) }
+    ensures { (outcome result ≡ value tt) × Turned m.old (put_in p (decode piece.now) (text_in m.old)) m.new × (piece.now ≡ [] → m.new ≡ m.old) }
 {
     if piece.len() == 0 {
-        return Verdict::Accepted;
+        return Ok(());
     }
-    match inside(m, p, 0, piece) {
-        Truth::Refused(r) => Verdict::Refused(r),
-        Truth::Is(done) => {
-            if done {
-                return Verdict::Accepted;
-            }
-            insert_beside(m, p, piece)
-        }
+    let done = inside(m, p, 0, piece)?;
+    if done {
+        return Ok(());
     }
+    insert_beside(m, p, piece)
 }
 
 // A piece put in at a place: how many lines more the note has.
-pub fn insert(m: &mut [u8], p: usize, piece: &[u8]) -> Change
+pub fn insert(m: &mut [u8], p: usize, piece: &[u8]) -> Answer<i64>
     ensures { Edited (λ N. inserted N p piece.now) (piece.now ≡ []) m.old result m.new }
 {
-    let may = insert_refusal(m, piece, p);
-    match may {
-        Verdict::Refused(r) => Change::Refused(r),
-        Verdict::Accepted => {
-            let before = breaks_of(m);
-            let end = need(m);
-            match insert_own(&mut m[..end], p, piece) {
-                Verdict::Refused(r) => Change::Refused(r),
-                Verdict::Accepted => Change::By(difference(before, breaks_of(m))),
-            }
-        }
-    }
+    insert_refusal(m, piece, p)?;
+    let before = breaks_of(m);
+    let end = need(m);
+    insert_own(&mut m[..end], p, piece)?;
+    Ok(difference(before, breaks_of(m)))
 }
 
 // [s, e) taken out leaf by leaf, from the back.
-fn cut(m: &mut [u8], s: usize, e: usize) -> Verdict
+fn cut(m: &mut [u8], s: usize, e: usize) -> Answer<()>
     requires { Cuts m.old s e }
-    ensures { (verdict result ≡ value tt) × Turned m.old (cut_out s e (text_in m.old)) m.new }
+    ensures { (outcome result ≡ value tt) × Turned m.old (cut_out s e (text_in m.old)) m.new }
 {
     let mut end = e;
     while s < end {
-        match take_out(m, end, end - s) {
-            Number::Refused(r) => {
-                return Verdict::Refused(r);
-            }
-            Number::Is(c) => {
-                end = end - c;
-            }
-        }
+        end -= take_out(m, end, end - s)?;
     }
-    Verdict::Accepted
+    Ok(())
 }
 
 // [s, e) taken out leaf by leaf. Where an LF follows, a CR stands before that meanwhile; it stays where a CR lies before s, in the place of that one.
-fn remove_over(m: &mut [u8], s: usize, e: usize) -> Verdict
+fn remove_over(m: &mut [u8], s: usize, e: usize) -> Answer<()>
     requires { Removes m.old s e × (s < e) }
-    ensures { (verdict result ≡ value tt) × Turned m.old (cut_out s e (text_in m.old)) m.new }
+    ensures { (outcome result ≡ value tt) × Turned m.old (cut_out s e (text_in m.old)) m.new }
 {
     if !at_lf(m, e) {
         return cut(m, s, e);
     }
     let guard: [u8; 1] = [13; 1];
-    let put = insert_own(m, e, &guard);
-    let Verdict::Accepted = put else {
-        return put;
-    };
+    insert_own(m, e, &guard)?;
     if behind_cr(m, s) {
         return cut(m, s - 1, e);
     }
-    let left = cut(m, s, e);
-    let Verdict::Accepted = left else {
-        return left;
-    };
+    cut(m, s, e)?;
     cut(m, s, s + 1)
 }
 
 // [s, e) taken out of the note's part of the memory.
-fn remove_own(m: &mut [u8], s: usize, e: usize) -> Verdict
+fn remove_own(m: &mut [u8], s: usize, e: usize) -> Answer<()>
     requires { Removes m.old s e }
-    ensures { (verdict result ≡ value tt) × Turned m.old (cut_out s e (text_in m.old)) m.new × (s ≡ e → m.new ≡ m.old) }
+    ensures { (outcome result ≡ value tt) × Turned m.old (cut_out s e (text_in m.old)) m.new × (s ≡ e → m.new ≡ m.old) }
 {
     if s == e {
-        return Verdict::Accepted;
+        return Ok(());
     }
     let empty: [u8; 1] = [0; 1];
-    match inside(m, e, e - s, &empty[..0]) {
-        Truth::Refused(r) => Verdict::Refused(r),
-        Truth::Is(done) => {
-            if done {
-                return Verdict::Accepted;
-            }
-            remove_over(m, s, e)
-        }
+    let done = inside(m, e, e - s, &empty[..0])?;
+    if done {
+        return Ok(());
     }
+    remove_over(m, s, e)
 }
 
 // The chars of [s, e) taken out.
-pub fn remove(m: &mut [u8], s: usize, e: usize) -> Change
+pub fn remove(m: &mut [u8], s: usize, e: usize) -> Answer<i64>
     ensures { Edited (λ N. removed N s e) (s ≡ e) m.old result m.new }
 {
-    let may = remove_refusal(m, s, e);
-    match may {
-        Verdict::Refused(r) => Change::Refused(r),
-        Verdict::Accepted => {
-            let before = breaks_of(m);
-            let end = need(m);
-            match remove_own(&mut m[..end], s, e) {
-                Verdict::Refused(r) => Change::Refused(r),
-                Verdict::Accepted => Change::By(difference(before, breaks_of(m))),
-            }
-        }
-    }
+    remove_refusal(m, s, e)?;
+    let before = breaks_of(m);
+    let end = need(m);
+    remove_own(&mut m[..end], s, e)?;
+    Ok(difference(before, breaks_of(m)))
 }

@@ -1,4 +1,5 @@
 -- What the stores of the head's writers come to, and which rule a test of their code is.
+use Rattle.answer.specs.Answers.{Answer}
 use mathlib.Core.Path.{◌≡◌, refl, sym, ap, ◌∙◌}
 use mathlib.Core.List.{List, [], ◌∷◌, ◌++◌}
 use Prim.Native.Nat.{ℕ, ◌+◌, ◌≤◌, ◌<◌}
@@ -11,7 +12,6 @@ use borrow.Author.Tests.{lt-ltb, le-ltb, le-leb, lt-leb}
 use Rattle.plain_note.specs.Note.{head_size}
 use Rattle.plain.specs.Outcome.{Outcome, Outcome.value, Outcome.refused, ruled, past, kept}
 use Rattle.plain.proofs.Outcome.{rule-applies, rule-passed, one-applies, one-passed}
-use Rattle.answer.specs.declared.Verdict.{Verdict}
 use Rattle.octets.specs.Over.{overlaid}
 use Rattle.octets.proofs.Over.{overlaid-length, over-join, sets_over}
 use Rattle.pool.specs.declared.Kid.{Kid}
@@ -61,7 +61,7 @@ module _ (m : List ℕ) (h : head_size ≤ length m) where
   height-it v = one-passed 2 (past head_size (length m)) (height_put m v) (le-ltb (length m) head_size h)
 
   -- what a call that is not refused has written
-  module _ (r : Verdict) (after : List ℕ) where
+  module _ (r : Answer (Unit {0})) (after : List ℕ) where
     pub number-there : (at v : ℕ) → Wrote (number_set m at v) m r after → after ≡ number_put m at v
     number-there at v w = w.memory ∙ ap (λ (o : Outcome (List ℕ)). kept m o) (number-it at v)
 
@@ -88,7 +88,7 @@ module _ (m : List ℕ) (k : ℕ) (x : List ℕ) where
     mark-it l = passed ∙ one-passed 7 (leb 256 k) x (lt-leb 256 k l)
 
 -- what a call that is not refused has written
-module _ (m : List ℕ) (h : head_size ≤ length m) (k : ℕ) (l : k < 256) (v : ℕ) (r : Verdict) (after : List ℕ) where
+module _ (m : List ℕ) (h : head_size ≤ length m) (k : ℕ) (l : k < 256) (v : ℕ) (r : Answer (Unit {0})) (after : List ℕ) where
   pub live-there : Wrote (live_set m k v) m r after → after ≡ live_put m k v
   unfolding live_set
   live-there w = w.memory ∙ ap (λ (o : Outcome (List ℕ)). kept m o) (mark-it m k (live_put m k v) h l)

@@ -13,7 +13,7 @@ ghost use Rattle.pool.specs.Calls.{Wrote};
 ghost use Rattle.note_head.specs.Writes.{number_set, root_set, height_set, live_set, place_set};
 ghost use Rattle.plain_note.specs.Note as note;
 
-use answer::{Refusal, Verdict};
+use answer::{Answer, Refusal};
 use octets::{byte_at, number_at};
 use pool::{HEAD_BYTES, Kid, SLOT_BYTES};
 use text_info::TextInfo;
@@ -158,31 +158,31 @@ fn put_number(m: &mut [u8], at: usize, v: u32)
     m[at + 3] = (v % 65536 % 256) as u8;
 }
 
-fn set_number(m: &mut [u8], at: usize, v: u32) -> Verdict
+fn set_number(m: &mut [u8], at: usize, v: u32) -> Answer<()>
     requires { at + 4 ≤ head_size }
     ensures { Wrote (number_set m.old at v) m.old result m.new }
 {
     if m.len() < HEAD_BYTES {
-        return Verdict::Refused(Refusal::Memory);
+        return Err(Refusal::Memory);
     }
     put_number(m, at, v);
-    Verdict::Accepted
+    Ok(())
 }
 
 // How many slots the note has.
-pub fn set_slots(m: &mut [u8], n: u32) -> Verdict
+pub fn set_slots(m: &mut [u8], n: u32) -> Answer<()>
     ensures { Wrote (number_set m.old 0 n) m.old result m.new }
 {
     set_number(m, SLOTS_AT, n)
 }
 
-pub fn set_edit_number(m: &mut [u8], v: u32) -> Verdict
+pub fn set_edit_number(m: &mut [u8], v: u32) -> Answer<()>
     ensures { Wrote (number_set m.old 4 v) m.old result m.new }
 {
     set_number(m, EDIT_AT, v)
 }
 
-pub fn set_first_free(m: &mut [u8], slot: u32) -> Verdict
+pub fn set_first_free(m: &mut [u8], slot: u32) -> Answer<()>
     ensures { Wrote (number_set m.old 32 slot) m.old result m.new }
 {
     set_number(m, FREE_AT, slot)
@@ -202,49 +202,49 @@ fn put_kid(m: &mut [u8], at: usize, k: Kid)
 }
 
 // The root as a child: its slot, and the counts of the note. The promise adds that its numbers have 32 bits, for the law that it is read back.
-pub fn set_root(m: &mut [u8], k: Kid) -> Verdict
+pub fn set_root(m: &mut [u8], k: Kid) -> Answer<()>
     ensures { Wrote (root_set m.old k) m.old result m.new × Fits k }
 {
     if m.len() < HEAD_BYTES {
-        return Verdict::Refused(Refusal::Memory);
+        return Err(Refusal::Memory);
     }
     put_kid(m, ROOT_AT, k);
-    Verdict::Accepted
+    Ok(())
 }
 
-pub fn set_height(m: &mut [u8], h: u8) -> Verdict
+pub fn set_height(m: &mut [u8], h: u8) -> Answer<()>
     ensures { Wrote (height_set m.old h) m.old result m.new }
 {
     if m.len() < HEAD_BYTES {
-        return Verdict::Refused(Refusal::Memory);
+        return Err(Refusal::Memory);
     }
     m[HEIGHT_AT] = h;
-    Verdict::Accepted
+    Ok(())
 }
 
 // Mark k live, by 1, or free, by 0.
-pub fn set_mark_live(m: &mut [u8], k: usize, live: u8) -> Verdict
+pub fn set_mark_live(m: &mut [u8], k: usize, live: u8) -> Answer<()>
     ensures { Wrote (live_set m.old k live) m.old result m.new }
 {
     if m.len() < HEAD_BYTES {
-        return Verdict::Refused(Refusal::Memory);
+        return Err(Refusal::Memory);
     }
     if MARKS <= k {
-        return Verdict::Refused(Refusal::Mark);
+        return Err(Refusal::Mark);
     }
     m[MARKS_AT + MARK_BYTES * k] = live;
-    Verdict::Accepted
+    Ok(())
 }
 
-pub fn set_mark_place(m: &mut [u8], k: usize, place: u32) -> Verdict
+pub fn set_mark_place(m: &mut [u8], k: usize, place: u32) -> Answer<()>
     ensures { Wrote (place_set m.old k place) m.old result m.new }
 {
     if m.len() < HEAD_BYTES {
-        return Verdict::Refused(Refusal::Memory);
+        return Err(Refusal::Memory);
     }
     if MARKS <= k {
-        return Verdict::Refused(Refusal::Mark);
+        return Err(Refusal::Mark);
     }
     put_number(m, PLACES_AT + MARK_BYTES * k, place);
-    Verdict::Accepted
+    Ok(())
 }

@@ -1,4 +1,5 @@
 -- The promises of the calls on marks, from what their tests found in the memory's bytes.
+use Rattle.answer.specs.Answers.{Answer, outcome}
 use mathlib.Core.Path.{◌≡◌, refl, sym, ap, subst, ◌∙◌}
 use mathlib.Core.Bool.{Bool, true, false}
 use mathlib.Core.Logic.{◌⊎◌, ⊎_elim}
@@ -19,8 +20,6 @@ use Rattle.plain_calls.specs.Calls.{marked, setting, dropping}
 use Rattle.plain_calls.proofs.Marks.{same_or_not}
 use Rattle.note_head.specs.Head.{root_of, live_at, place_at, mark_at, marks_from, own_of}
 use Rattle.note_head.proofs.Own.{own-marks}
-use Rattle.answer.specs.Answers.{verdict}
-use Rattle.answer.specs.declared.Verdict.{Verdict}
 use Rattle.pool.specs.Calls.{Wrote}
 use Rattle.note_head.specs.Writes.{live_put, live_set}
 use Rattle.note_head.proofs.Laid.{mark-it, live-there}
@@ -197,7 +196,7 @@ module _ (m : List ℕ) (k : ℕ) where
         accepted = one-passed 7 (is_free (mark_of (note_of m) k)) _ (one-accepted 7 (is_free (mark_of (note_of m) k)) (place_in (mark_of (note_of m) k)) q (standing-is m k ∙ sym e))
 
     -- the byte written
-    pub dropped : (q : ℕ) → value q ≡ standing_in m k → (r : Verdict) (after : List ℕ) → Wrote (live_set m k 0) m r after → MarkCalled (λ N. dropping N k) drop-bytes m (verdict r) after
+    pub dropped : (q : ℕ) → value q ≡ standing_in m k → (r : Answer (Unit {0})) (after : List ℕ) → Wrote (live_set m k 0) m r after → MarkCalled (λ N. dropping N k) drop-bytes m (outcome r) after
     unfolding live_set
     dropped q e r after w =
         let l = (stands-lives m k q (sym e)).below in

@@ -1,4 +1,5 @@
 -- The promises of the calls, from what refused them or from what their steps left.
+use Rattle.answer.specs.Answers.{Answer, outcome}
 use mathlib.Core.Path.{◌≡◌, refl, sym, ap, subst, ◌∙◌}
 use mathlib.Core.Bool.{Bool, true, false, ◌&&◌, cond}
 use mathlib.Core.List.{List, []}
@@ -13,8 +14,6 @@ use Rattle.plain.specs.Outcome.{Outcome, Outcome.value, Outcome.refused, mapped}
 use Rattle.plain.proofs.Outcome.{clash}
 use Rattle.plain_note.specs.Note.{Note, head_size}
 use Rattle.plain_calls.specs.Calls.{edited, lines_more}
-use Rattle.answer.specs.Answers.{change}
-use Rattle.answer.specs.declared.Change.{Change}
 use Rattle.memory.specs.Formed.{well_formed, note_of, of_note}
 use Rattle.memory.proofs.Formed.{note-called, note-refused}
 use Rattle.edit_steps.specs.Held.{Kept}
@@ -61,8 +60,8 @@ module _ (o : Note → Outcome (List ℕ)) (s e : ℕ) (piece m : List ℕ) wher
   abbrev full : Note → Outcome (ℤ × Note)
   full N = mapped (told N) (o N)
 
-  abbrev Promised : Change → List ℕ → Type 0
-  Promised r after = EditCalled full s e piece m (change r) after
+  abbrev Promised : Answer ℤ → List ℕ → Type 0
+  Promised r after = EditCalled full s e piece m (outcome r) after
 
   full-refused : (q : ℕ) → of_note m (λ N. mapped (λ t. lines_more N t) (o N)) ≡ refused q → of_note m full ≡ refused q
   full-refused q f = go (well_formed m) refl
@@ -95,9 +94,9 @@ module _ (o : Note → Outcome (List ℕ)) (s e : ℕ) (piece m : List ℕ) wher
           on (refused n) x y = absurd (clash n d (sym y))
       go false w = absurd (clash 2 d (sym (f ∙ note-refused m (λ N. mapped (λ t. lines_more N t) (o N)) w)))
 
-  module _ (idle : Type 0) (r : Change) (a : List ℕ) (w : Edited o idle m r a) where
+  module _ (idle : Type 0) (r : Answer ℤ) (a : List ℕ) (w : Edited o idle m r a) where
     -- THEOREM: a refused edit
-    pub edit-refused : (q : ℕ) → change r ≡ refused q → Promised r a
+    pub edit-refused : (q : ℕ) → outcome r ≡ refused q → Promised r a
     edit-refused q f =
         let g : of_note m full ≡ refused q = full-refused q (sym w.answered ∙ f) in
         let h : a ≡ m = same-refused q g in
@@ -119,7 +118,7 @@ module _ (o : Note → Outcome (List ℕ)) (s e : ℕ) (piece m : List ℕ) wher
                 on (refused n) x y = w.unchanged n (note-called m o ok ∙ x)
             go false wrong = w.unchanged 2 (note-refused m o wrong)
 
-    module _ (d : ℤ) (f : change r ≡ value d) where
+    module _ (d : ℤ) (f : outcome r ≡ value d) where
       pub came : Comes d
       came = comes d (sym f ∙ w.answered)
 
@@ -160,7 +159,7 @@ module _ (o : Note → Outcome (List ℕ)) (s e : ℕ) (piece m : List ℕ) wher
           (λ x y. h)
 
 -- memory in which an edit was accepted is longer than its head
-pub accepted-long : (o : Note → Outcome (List ℕ)) (idle : Type 0) (m : List ℕ) (r : Change) (a : List ℕ) → Edited o idle m r a → (d : ℤ) → change r ≡ value d → head_size ≤ length a
+pub accepted-long : (o : Note → Outcome (List ℕ)) (idle : Type 0) (m : List ℕ) (r : Answer ℤ) (a : List ℕ) → Edited o idle m r a → (d : ℤ) → outcome r ≡ value d → head_size ≤ length a
 accepted-long o idle m r a w d f =
     let n = comes o 0 0 [] m d (sym f ∙ w.answered) in
     let h = w.edited n.text (note-called m o n.ok ∙ n.is) in

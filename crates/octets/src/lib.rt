@@ -4,12 +4,6 @@
 ghost use Rattle.std.specs.Prelude.{◌≡◌, ◌<◌, get_or};
 ghost use Rattle.octets.specs.Big.{two_at, four_at};
 
-fn wide(x: u8) -> u32
-    ensures { (result ≡ x) × (result < 256) }
-{
-    x as u32
-}
-
 pub fn byte_at(m: &[u8], at: usize) -> u8
     ensures { result ≡ get_or m.now at 0 }
 {
@@ -26,7 +20,7 @@ pub fn two_at(m: &[u8], at: usize) -> u32
     if m.len() <= at {
         return 0;
     }
-    wide(byte_at(m, at)) * 256 + wide(byte_at(m, at + 1))
+    u32::from(byte_at(m, at)) * 256 + u32::from(byte_at(m, at + 1))
 }
 
 pub fn number_at(m: &[u8], at: usize) -> u32

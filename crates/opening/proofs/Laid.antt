@@ -1,21 +1,19 @@
--- What each turn of opening's loops does, what its writes come to one behind the other, and which rule a test of its code is.
-use mathlib.Core.Path.{◌≡◌, refl, sym, ap, ◌∙◌}
+-- What a turn of opening's loop does, what its writes come to one behind the other, and which rule a test of its code is.
+use Rattle.answer.specs.Answers.{Answer}
+use Rattle.std.specs.Prelude.{Err}
+use mathlib.Core.Path.{◌≡◌, sym, ap, ◌∙◌}
 use mathlib.Core.Bool.{true}
 use mathlib.Core.List.{List, [], ◌∷◌, ◌++◌, append_assoc}
 use Prim.Native.Nat.{ℕ, suc, ◌+◌, ◌-◌, ◌≤◌, ◌<◌}
 use native.Mathlib.Omega.{arith}
-use native.Mathlib.Numerals.{add-one}
 use lib.Dec.{ltb}
-use lib.ListN.{length, take, drop, set, length-append, length-replicate, take-append-drop}
-use lib.Seq.{set_split}
+use lib.ListN.{length, length-append, length-replicate}
 use borrow.Author.Tests.{lt-ltb, le-ltb}
 use Rattle.plain.specs.Outcome.{Outcome, Outcome.value, Outcome.refused, past, kept}
 use Rattle.plain.proofs.Logic.{or_left, or_right, or-none}
 use Rattle.plain.proofs.Outcome.{rule-passed, one-applies, one-passed}
 use Rattle.plain_note.specs.Note.{need, head_size}
 use Rattle.answer.specs.declared.Refusal.{Refusal}
-use Rattle.answer.specs.declared.Verdict.{Verdict}
-use Rattle.answer.specs.declared.Verdict.TheVariants as Verdict·case
 use Rattle.octets.specs.Over.{overlaid}
 use Rattle.octets.proofs.Over.{overlaid-length, over-join}
 use Rattle.octets.specs.Big.{bytes_of4}
@@ -33,28 +31,6 @@ pub zeros-length : (k : ℕ) → length (zero_bytes k) ≡ k
 unfolding zero_bytes
 zeros-length k = length-replicate k 0
 
-one-over : (m : List ℕ) (i : ℕ) → i < length m → set m i 0 ≡ overlaid i (0 ∷ []) m
-one-over m i h = set_split m i 0 h ∙ ap (λ (n : ℕ). take i m ++ (0 ∷ drop n m)) (sym (add-one i))
-
-zeros-more : (k : ℕ) → 0 ∷ zero_bytes k ≡ zero_bytes (suc k)
-unfolding zero_bytes
-zeros-more k = refl
-
-pub clear-turn : (m : List ℕ) (i end : ℕ) → i < end → end ≤ length m → overlaid (i + 1) (zero_bytes (end - (i + 1))) (set m i 0) ≡ overlaid i (zero_bytes (end - i)) m
-clear-turn m i end h k =
-    let rest = end - (i + 1) in
-    let z : suc rest ≡ end - i = omega arith in
-    ap (overlaid (i + 1) (zero_bytes rest)) (one-over m i (omega arith))
-    ∙ over-join i (i + 1) (0 ∷ []) (zero_bytes rest) m refl (omega arith)
-    ∙ ap (λ (x : List ℕ). overlaid i x m) (zeros-more rest ∙ ap zero_bytes z)
-
-pub clear-end : (m : List ℕ) (i end : ℕ) → end ≤ i → m ≡ overlaid i (zero_bytes (end - i)) m
-unfolding zero_bytes
-clear-end m i end h =
-    let z : end - i ≡ 0 = omega arith in
-    let y : i + 0 ≡ i = omega arith in
-    sym (ap (λ (k : ℕ). overlaid i (zero_bytes k) m) z ∙ ap (λ (n : ℕ). take i m ++ drop n m) y ∙ take-append-drop i m)
-
 -- ── the head, part by part ──
 
 pub new-length : (n : ℕ) → length (new_head n) ≡ head_size
@@ -71,7 +47,7 @@ new-length n =
       zeros-length (head_size - 36),
     )
 
-pub head-laid : (m m₁ m₂ m₃ m₄ : List ℕ) (n : ℕ) (v u : Verdict) → head_size ≤ length m → Wrote (number_set m 0 n) m v m₁ → m₂ ≡ overlaid 4 (zero_bytes 28) m₁ → Wrote (number_set m₂ 32 1) m₂ u m₃
+pub head-laid : (m m₁ m₂ m₃ m₄ : List ℕ) (n : ℕ) (v u : Answer (Unit {0})) → head_size ≤ length m → Wrote (number_set m 0 n) m v m₁ → m₂ ≡ overlaid 4 (zero_bytes 28) m₁ → Wrote (number_set m₂ 32 1) m₂ u m₃
     → m₄ ≡ overlaid 36 (zero_bytes (head_size - 36)) m₃ → m₄ ≡ overlaid 0 (new_head n) m
 unfolding new_head
 head-laid m m₁ m₂ m₃ m₄ n v u h w₁ e₂ w₃ e₄ =
@@ -102,11 +78,11 @@ module _ (m : List ℕ) (s kind len most next : ℕ) where
       let p = head_put m s kind len next in
       rule-passed 2 (outside m s) ((11, past len most) ∷ []) p (le-ltb (length m) (slot_start s + 640) h) ∙ one-passed 11 (past len most) p (le-ltb most len l)
 
-  module _ (v : Verdict) (after : List ℕ) (w : Wrote (head_set m s kind len most next) m v after) (h : slot_start s + 640 ≤ length m) (l : len ≤ most) where
+  module _ (v : Answer (Unit {0})) (after : List ℕ) (w : Wrote (head_set m s kind len most next) m v after) (h : slot_start s + 640 ≤ length m) (l : len ≤ most) where
     pub head-set : after ≡ head_put m s kind len next
     head-set = w.memory ∙ ap (λ (o : Outcome (List ℕ)). kept m o) (head-it h l)
 
-    pub head_never : {X : Type 0} (q : Refusal) → v ≡ Verdict·case.Refused q → X
+    pub head_never : {X : Type 0} (q : Refusal) → v ≡ Err q → X
     head_never q f = wrote-never _ m v after w _ (head-it h l) q f
 
 pub free-turn : (m l : List ℕ) (i n : ℕ) → i < n → l ≡ head_put m i 0 0 (i + 1) → frees_put l (i + 1) (n - (i + 1)) ≡ frees_put m i (n - i)

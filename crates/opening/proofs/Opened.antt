@@ -1,4 +1,6 @@
 -- What opening makes is well formed, and its note is empty, without marks, its edit number 0; what lies beyond the need stays as it was.
+use Rattle.answer.specs.Answers.{Answer, outcome}
+use Rattle.std.specs.Prelude.{Ok}
 use mathlib.Core.Path.{◌≡◌, refl, sym, ap, subst, ◌∙◌}
 use mathlib.Core.Bool.{Bool, true, false, ◌||◌}
 use mathlib.Core.List.{List}
@@ -12,9 +14,6 @@ use Rattle.plain.specs.Outcome.{Outcome, Outcome.value, Outcome.refused, past, m
 use Rattle.plain.proofs.Logic.{neither}
 use Rattle.plain.proofs.Outcome.{one-applies, one-passed}
 use Rattle.plain_note.specs.Note.{Note, need, opened, opening, head_size}
-use Rattle.answer.specs.Answers.{verdict}
-use Rattle.answer.specs.declared.Verdict.{Verdict}
-use Rattle.answer.specs.declared.Verdict.TheVariants as Verdict·case
 use Rattle.octets.specs.Over.{overlaid}
 use Rattle.octets.proofs.Over.{overlaid-length, part-is, over-rest, part-is-laid}
 use Rattle.octets.specs.Big.{two_at, four_at}
@@ -150,18 +149,18 @@ module _ (m : List ℕ) (n : ℕ) where
           ∙ ap (λ (N : Note). value N) (opened-is m n f.0 f.1 f.2).note
           ∙ sym (one-passed 1 (misfit n (length m)) (opened n) e)
 
-  module _ (r : Verdict) (after : List ℕ) (w : Wrote (opens m n) m r after) where
-    pub verdict-is : verdict r ≡ mapped (λ N. tt) (opening n (length m))
+  module _ (r : Answer (Unit {0})) (after : List ℕ) (w : Wrote (opens m n) m r after) where
+    pub verdict-is : outcome r ≡ mapped (λ N. tt) (opening n (length m))
     verdict-is = w.answered ∙ answered-alike (opens m n) ∙ ap (mapped (λ N. tt)) opens-note
 
     -- THEOREM: an accepted call has opened the memory
-    pub accepted-opened : r ≡ Verdict·case.Accepted → Opened m n after
+    pub accepted-opened : r ≡ (Ok tt) → Opened m n after
     unfolding opens
     accepted-opened a = go (misfit n (length m)) refl
       where
         go : (t : Bool) → misfit n (length m) ≡ t → Opened m n after
         go true e =
-            let p = ap verdict (sym a) ∙ w.answered ∙ ap (mapped (λ t. tt)) (one-applies 1 (misfit n (length m)) (opened_memory m n) e) in
+            let p = ap outcome (sym a) ∙ w.answered ∙ ap (mapped (λ t. tt)) (one-applies 1 (misfit n (length m)) (opened_memory m n) e) in
             absurd (let z : ◌≡◌ {A = ℕ} 0 1 = cc in omega arith)
         go false e =
             let f = fitting e in

@@ -1,4 +1,5 @@
 -- An answer opened by a caller: what is then known of the slot, and of the memory afterwards.
+use Rattle.std.specs.Prelude.{Ok, Err}
 use mathlib.Core.Path.{◌≡◌, refl, sym, ap, subst, ◌∙◌}
 use mathlib.Core.Bool.{Bool, true, false, ◌&&◌, ◌||◌, cond}
 use mathlib.Core.List.{List, [], ◌∷◌}
@@ -10,24 +11,15 @@ use borrow.Author.Tests.{ltb-false, le-ltb, eqb-true, eqb-false}
 use Rattle.plain.specs.Outcome.{Outcome, Outcome.value, Outcome.refused, past, mapped}
 use Rattle.plain.proofs.Logic.{neither}
 use Rattle.plain.proofs.Outcome.{rule-passed, one-passed, accepted, all-accepted}
-use Rattle.answer.specs.Answers.{refusal_number, number}
+use Rattle.answer.specs.Answers.{refusal_number, Answer, outcome}
 use Rattle.answer.specs.declared.Refusal.{Refusal}
-use Rattle.answer.specs.declared.Number.{Number}
-use Rattle.answer.specs.declared.Number.TheVariants as Number·case
-use Rattle.answer.specs.declared.Verdict.{Verdict}
-use Rattle.answer.specs.declared.Verdict.TheVariants as Verdict·case
-use Rattle.answer.proofs.Opened.{verdict-never}
+use Rattle.answer.proofs.Opened.{never-refused}
 use Rattle.leaf_bytes.proofs.Opened.{never}
-use Rattle.text_info.specs.Info.{info}
 use Rattle.text_info.specs.declared.TextInfo.{TextInfo}
-use Rattle.text_info.specs.declared.Info.{Info}
-use Rattle.text_info.specs.declared.Info.TheVariants as Info·case
 use Rattle.pool.specs.declared.Kid.{Kid}
 use Rattle.pool.specs.declared.Head.{Head}
-use Rattle.pool.specs.declared.Entry.{Entry}
-use Rattle.pool.specs.declared.Entry.TheVariants as Entry·case
 use Rattle.pool.specs.Slot.{slot_start, kind_of, len_of, next_of, region_of, entries, no_kid, head_put, kid_put}
-use Rattle.pool.specs.Calls.{outside, no_entry, Held, Held.free, Held.leaf, Held.list, held, held_by, wrong_head, head_of, entry, kid_of, child_of, info_of, region_start, head_set, kid_set, Wrote}
+use Rattle.pool.specs.Calls.{outside, no_entry, Held, Held.free, Held.leaf, Held.list, held, held_by, wrong_head, head_of, kid_of, child_of, info_of, region_start, head_set, kid_set, Wrote}
 use Rattle.pool.proofs.Rules.{above}
 
 inside : (m : List ℕ) (s : ℕ) → outside m s ≡ false → slot_start s + 640 ≤ length m
@@ -57,7 +49,7 @@ says kind len next e =
     go false ea false eb true ec h f g = (eqb-true kind 2 ec, refl, ltb-false 16 len g)
     go false ea false eb false ec h f g = absurd (two kind h ea eb ec)
 
-pub head_opened : (r : Head) (m : List ℕ) (s : ℕ) (h : Held) → held r ≡ head_of m s → held r ≡ value h → (slot_start s + 640 ≤ length m) × Says (kind_of m s) (len_of m s) (next_of m s) h
+pub head_opened : (r : Answer Head) (m : List ℕ) (s : ℕ) (h : Held) → held r ≡ head_of m s → held r ≡ value h → (slot_start s + 640 ≤ length m) × Says (kind_of m s) (len_of m s) (next_of m s) h
 unfolding head_of
 head_opened r m s h p e =
     let a = accepted 2 (outside m s || wrong_head (kind_of m s) (len_of m s)) [] (held_by (kind_of m s) (len_of m s) (next_of m s)) h (sym p ∙ e) in
@@ -66,30 +58,30 @@ head_opened r m s h p e =
 
 -- ── the place of a region ──
 
-pub region-opened : (r : Number) (m : List ℕ) (s a : ℕ) → number r ≡ region_start m s → r ≡ Number·case.Is a → (slot_start s + 640 ≤ length m) × (a ≡ slot_start s + 128)
+pub region-opened : (r : Answer ℕ) (m : List ℕ) (s a : ℕ) → outcome r ≡ region_start m s → r ≡ Ok a → (slot_start s + 640 ≤ length m) × (a ≡ slot_start s + 128)
 unfolding region_start
 region-opened r m s a p e =
-    let b = accepted 2 (outside m s) [] (slot_start s + 128) a (sym p ∙ ap number e) in
+    let b = accepted 2 (outside m s) [] (slot_start s + 128) a (sym p ∙ ap outcome e) in
     (inside m s b.0, sym (all-accepted (slot_start s + 128) a b.1))
 
 -- ── an entry ──
 
-pub entry-opened : (r : Entry) (m : List ℕ) (s i : ℕ) (k : Kid) → entry r ≡ kid_of m s i → r ≡ Entry·case.Is k
+pub entry-opened : (r : Answer Kid) (m : List ℕ) (s i : ℕ) (k : Kid) → outcome r ≡ kid_of m s i → r ≡ Ok k
     → (slot_start s + 640 ≤ length m) × (i < 16) × (k ≡ get_or (entries (region_of m s)) i no_kid)
 unfolding kid_of
 entry-opened r m s i k p e =
     let v = get_or (entries (region_of m s)) i no_kid in
-    let a = accepted 2 (outside m s) (no_entry i ∷ []) v k (sym p ∙ ap entry e) in
+    let a = accepted 2 (outside m s) (no_entry i ∷ []) v k (sym p ∙ ap outcome e) in
     let b = accepted 3 (past i 15) [] v k a.1 in
     (inside m s a.0, (let h = ltb-false 15 i b.0 in omega arith), sym (all-accepted v k b.1))
 
 -- of a slot in the memory no entry is refused
-pub entry-there : (r : Entry) (m : List ℕ) (s i : ℕ) (q : Refusal) → entry r ≡ kid_of m s i → r ≡ Entry·case.Refused q → slot_start s + 640 ≤ length m → i < 16 → ⊥
+pub entry-there : (r : Answer Kid) (m : List ℕ) (s i : ℕ) (q : Refusal) → outcome r ≡ kid_of m s i → r ≡ Err q → slot_start s + 640 ≤ length m → i < 16 → ⊥
 unfolding kid_of
 entry-there r m s i q p e h k =
     let v = get_or (entries (region_of m s)) i no_kid in
     never (refusal_number q) v
-    (sym (ap entry e) ∙ p ∙ rule-passed 2 (outside m s) (no_entry i ∷ []) v (le-ltb (length m) (slot_start s + 640) h) ∙ one-passed 3 (past i 15) v (le-ltb 15 i (omega arith)))
+    (sym (ap outcome e) ∙ p ∙ rule-passed 2 (outside m s) (no_entry i ∷ []) v (le-ltb (length m) (slot_start s + 640) h) ∙ one-passed 3 (past i 15) v (le-ltb 15 i (omega arith)))
 
 -- the slot of its child, and the counts
 module _ (m : List ℕ) (s i : ℕ) (h : slot_start s + 640 ≤ length m) (k : i < 16) where
@@ -105,43 +97,43 @@ module _ (m : List ℕ) (s i : ℕ) (h : slot_start s + 640 ≤ length m) (k : i
   same-value : {A : Type 0} (a b : A) → value a ≡ value b → a ≡ b
   same-value a b e = cc
 
-  module _ (r : Number) (promise : number r ≡ child_of m s i) where
-    child-is : number r ≡ value held-kid.slot
+  module _ (r : Answer ℕ) (promise : outcome r ≡ child_of m s i) where
+    child-is : outcome r ≡ value held-kid.slot
     child-is = promise ∙ ap (mapped (λ (x : Kid). x.slot)) there
 
-    pub child-opened : (n : ℕ) → r ≡ Number·case.Is n → n ≡ held-kid.slot
-    child-opened n e = same-value n held-kid.slot (sym (ap number e) ∙ child-is)
+    pub child-opened : (n : ℕ) → r ≡ Ok n → n ≡ held-kid.slot
+    child-opened n e = same-value n held-kid.slot (sym (ap outcome e) ∙ child-is)
 
-    pub child-there : (q : Refusal) → r ≡ Number·case.Refused q → ⊥
-    child-there q e = never (refusal_number q) held-kid.slot (sym (ap number e) ∙ child-is)
+    pub child-there : (q : Refusal) → r ≡ Err q → ⊥
+    child-there q e = never (refusal_number q) held-kid.slot (sym (ap outcome e) ∙ child-is)
 
-  module _ (r : Info) (promise : info r ≡ info_of m s i) where
-    info-is : info r ≡ value held-kid.info
+  module _ (r : Answer TextInfo) (promise : outcome r ≡ info_of m s i) where
+    info-is : outcome r ≡ value held-kid.info
     info-is = promise ∙ ap (mapped (λ (x : Kid). x.info)) there
 
-    pub info-opened : (t : TextInfo) → r ≡ Info·case.Is t → t ≡ held-kid.info
-    info-opened t e = same-value t held-kid.info (sym (ap info e) ∙ info-is)
+    pub info-opened : (t : TextInfo) → r ≡ Ok t → t ≡ held-kid.info
+    info-opened t e = same-value t held-kid.info (sym (ap outcome e) ∙ info-is)
 
-    pub info-there : (q : Refusal) → r ≡ Info·case.Refused q → ⊥
-    info-there q e = never (refusal_number q) held-kid.info (sym (ap info e) ∙ info-is)
+    pub info-there : (q : Refusal) → r ≡ Err q → ⊥
+    info-there q e = never (refusal_number q) held-kid.info (sym (ap outcome e) ∙ info-is)
 
 -- ── a write ──
 
 -- of a refused call the memory is as it was; of an accepted one no rule applied, and it is the new one
-pub wrote-not : (o : Outcome (List ℕ)) (before : List ℕ) (q : Refusal) (after : List ℕ) → Wrote o before (Verdict·case.Refused q) after → after ≡ before
+pub wrote-not : (o : Outcome (List ℕ)) (before : List ℕ) (q : Refusal) (after : List ℕ) → Wrote o before (Err q) after → after ≡ before
 wrote-not (value m) before q after w = absurd (let p = w.answered in let z : ◌≡◌ {A = ℕ} 0 1 = cc in omega arith)
 wrote-not (refused n) before q after w = w.memory
 
 -- what is written where a law says that it is not refused
-pub wrote-never : {X : Type 0} (o : Outcome (List ℕ)) (before : List ℕ) (r : Verdict) (after : List ℕ) → Wrote o before r after → (t : List ℕ) → o ≡ value t
-    → (q : Refusal) → r ≡ Verdict·case.Refused q → X
-wrote-never o before r after w t e q f = verdict-never q r (w.answered ∙ ap (mapped (λ x. tt)) e) f
+pub wrote-never : {X : Type 0} (o : Outcome (List ℕ)) (before : List ℕ) (r : Answer (Unit {0})) (after : List ℕ) → Wrote o before r after → (t : List ℕ) → o ≡ value t
+    → (q : Refusal) → r ≡ Err q → X
+wrote-never o before r after w t e q f = never-refused q r tt (w.answered ∙ ap (mapped (λ x. tt)) e) f
 
-wrote_it : (o : Outcome (List ℕ)) (before after : List ℕ) → Wrote o before Verdict·case.Accepted after → o ≡ value after
+wrote_it : (o : Outcome (List ℕ)) (before after : List ℕ) → Wrote o before (Ok tt) after → o ≡ value after
 wrote_it (value m) before after w = ap (λ (l : List ℕ). value l) (sym w.memory)
 wrote_it (refused n) before after w = absurd (let p = w.answered in let z : ◌≡◌ {A = ℕ} 0 1 = cc in omega arith)
 
-pub head-wrote : (m : List ℕ) (s kind len most next : ℕ) (after : List ℕ) → Wrote (head_set m s kind len most next) m Verdict·case.Accepted after
+pub head-wrote : (m : List ℕ) (s kind len most next : ℕ) (after : List ℕ) → Wrote (head_set m s kind len most next) m (Ok tt) after
     → (slot_start s + 640 ≤ length m) × (len ≤ most) × (after ≡ head_put m s kind len next)
 unfolding head_set
 head-wrote m s kind len most next after w =
@@ -150,7 +142,7 @@ head-wrote m s kind len most next after w =
     let b = accepted 11 (past len most) [] v after a.1 in
     (inside m s a.0, ltb-false most len b.0, sym (all-accepted v after b.1))
 
-pub kid-wrote : (m : List ℕ) (s i : ℕ) (k : Kid) (after : List ℕ) → Wrote (kid_set m s i k) m Verdict·case.Accepted after
+pub kid-wrote : (m : List ℕ) (s i : ℕ) (k : Kid) (after : List ℕ) → Wrote (kid_set m s i k) m (Ok tt) after
     → (slot_start s + 640 ≤ length m) × (i < 16) × (after ≡ kid_put m s i k)
 unfolding kid_set
 kid-wrote m s i k after w =

@@ -1,14 +1,11 @@
 -- What the calls on slots come to: document 01's refusals, the answers, and the memory afterwards.
-use Rattle.std.specs.Prelude.{◌≡◌, Bool, ◌&&◌, ◌||◌, cond, List, [], ◌∷◌, ℕ, ◌+◌, eqb, length, get_or}
+use Rattle.std.specs.Prelude.{◌≡◌, Bool, ◌&&◌, ◌||◌, cond, List, [], ◌∷◌, ℕ, ◌+◌, eqb, length, get_or, Ok, Err}
 use Rattle.plain.specs.Outcome.{Outcome, Outcome.value, Outcome.refused, Rule, ruled, past, kept, mapped}
-use Rattle.answer.specs.Answers.{refusal_number, verdict}
-use Rattle.answer.specs.declared.Verdict.{Verdict}
+use Rattle.answer.specs.Answers.{refusal_number, Answer, outcome}
 use Rattle.text_info.specs.declared.TextInfo.{TextInfo}
 use Rattle.pool.specs.declared.Kid.{Kid}
 use Rattle.pool.specs.declared.Head.{Head}
 use Rattle.pool.specs.declared.Head.TheVariants as Head·case
-use Rattle.pool.specs.declared.Entry.{Entry}
-use Rattle.pool.specs.declared.Entry.TheVariants as Entry·case
 use Rattle.pool.specs.Slot.{slot_start, kind_of, len_of, next_of, region_of, entries, no_kid, head_put, kid_put}
 
 -- 2: the slot does not lie wholly in the lent memory
@@ -30,11 +27,11 @@ pub data Held : Type 0 where
   leaf : ℕ → Held
   list : ℕ → Held
 
-abbrev pub held : Head → Outcome Held
-held (Head·case.Free n) = value (free n)
-held (Head·case.Leaf n) = value (leaf n)
-held (Head·case.List n) = value (list n)
-held (Head·case.Refused r) = refused (refusal_number r)
+abbrev pub held : Answer Head → Outcome Held
+held (Ok (Head·case.Free n)) = value (free n)
+held (Ok (Head·case.Leaf n)) = value (leaf n)
+held (Ok (Head·case.List n)) = value (list n)
+held (Err r) = refused (refusal_number r)
 
 -- of a kind, a length and a next free slot
 abbrev pub held_by : ℕ → ℕ → ℕ → Held
@@ -46,10 +43,6 @@ wrong_head kind len = past kind 2 || ((eqb kind 1 && past len 512) || (eqb kind 
 
 unfoldable pub head_of : List ℕ → ℕ → Outcome Held
 head_of m s = ruled ((2, outside m s || wrong_head (kind_of m s) (len_of m s)) ∷ []) (held_by (kind_of m s) (len_of m s) (next_of m s))
-
-abbrev pub entry : Entry → Outcome Kid
-entry (Entry·case.Is k) = value k
-entry (Entry·case.Refused r) = refused (refusal_number r)
 
 unfoldable pub kid_of : List ℕ → ℕ → ℕ → Outcome Kid
 kid_of m s i = ruled (no_slot m s ∷ no_entry i ∷ []) (get_or (entries (region_of m s)) i no_kid)
@@ -88,6 +81,6 @@ abbrev pub info_set : List ℕ → ℕ → ℕ → TextInfo → Outcome (List �
 info_set m s i t = kid_set m s i (record { slot = (get_or (entries (region_of m s)) i no_kid).slot; info = t })
 
 -- A writing call: its verdict, and every byte afterwards. A refused one changes none.
-pub record Wrote (o : Outcome (List ℕ)) (before : List ℕ) (r : Verdict) (after : List ℕ) : Type 0 where
-  pub answered : verdict r ≡ mapped (λ t. tt) o
+pub record Wrote (o : Outcome (List ℕ)) (before : List ℕ) (r : Answer (Unit {0})) (after : List ℕ) : Type 0 where
+  pub answered : outcome r ≡ mapped (λ t. tt) o
   pub memory : after ≡ kept before o

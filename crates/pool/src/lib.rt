@@ -7,17 +7,16 @@ mod big;
 
 ghost use Rattle.std.specs.Prelude.{◌≡◌, [], ◌∷◌, ◌+◌, ◌≤◌, length, get_or};
 ghost use Rattle.plain.specs.Outcome.{ruled};
-ghost use Rattle.answer.specs.Answers.{number};
+ghost use Rattle.answer.specs.Answers.{outcome};
 ghost use Rattle.octets.specs.Over.{overlaid};
-ghost use Rattle.text_info.specs.Info.{info};
 ghost use Rattle.octets.specs.Big.{two_at, four_at};
 ghost use Rattle.pool.specs.Slot.{slot_start, kid_start, head_bytes, kid_at, kid_bytes, Fits};
-ghost use Rattle.pool.specs.Calls.{no_slot, no_entry, held, held_by, wrong_head, head_of, entry, kid_of, child_of, info_of, region_start, head_set, free_set, leaf_set, list_set, kid_set, info_set, Wrote};
+ghost use Rattle.pool.specs.Calls.{no_slot, no_entry, held, held_by, wrong_head, head_of, kid_of, child_of, info_of, region_start, head_set, free_set, leaf_set, list_set, kid_set, info_set, Wrote};
 
 use crate::big::{read_u16, read_u32, write_u16, write_u32};
-use answer::{Number, Refusal, Verdict};
+use answer::{Answer, Refusal};
 use leaf_bytes::MAX_BYTES;
-use text_info::{Info, TextInfo};
+use text_info::TextInfo;
 
 pub const MAX_CHILDREN: usize = 16;
 
@@ -51,72 +50,59 @@ pub enum Head {
     Free(usize),
     Leaf(usize),
     List(usize),
-    Refused(Refusal),
-}
-
-// An entry of a child list.
-#[derive(Clone, Copy)]
-pub enum Entry {
-    Is(Kid),
-    Refused(Refusal),
 }
 
 // Where a slot begins.
-fn slot_start(m: &[u8], slot: usize) -> Number
-    ensures { number result ≡ ruled (no_slot m.now slot ∷ []) (slot_start slot) }
+fn slot_start(m: &[u8], slot: usize) -> Answer<usize>
+    ensures { outcome result ≡ ruled (no_slot m.now slot ∷ []) (slot_start slot) }
 {
     if m.len() < HEAD_BYTES {
-        return Number::Refused(Refusal::Memory);
+        return Err(Refusal::Memory);
     }
     if (m.len() - HEAD_BYTES) / SLOT_BYTES <= slot {
-        return Number::Refused(Refusal::Memory);
+        return Err(Refusal::Memory);
     }
-    Number::Is(HEAD_BYTES + SLOT_BYTES * slot)
+    Ok(HEAD_BYTES + SLOT_BYTES * slot)
 }
 
 // Where a slot's region begins, for a caller that lends it.
-pub fn region_start(m: &[u8], slot: usize) -> Number
-    ensures { number result ≡ region_start m.now slot }
+pub fn region_start(m: &[u8], slot: usize) -> Answer<usize>
+    ensures { outcome result ≡ region_start m.now slot }
 {
-    let start = slot_start(m, slot);
-    let Number::Is(at) = start else {
-        return start;
-    };
-    Number::Is(at + REGION_AT)
+    let at = slot_start(m, slot)?;
+    Ok(at + REGION_AT)
 }
 
 // The head of the slot that begins at `at`: refused by 2 where it is none.
-fn head_at(m: &[u8], at: usize) -> Head
+fn head_at(m: &[u8], at: usize) -> Answer<Head>
     requires { at + 640 ≤ length m.now }
     ensures { held result ≡ ruled ((2, wrong_head (get_or m.now at 0) (two_at m.now (at + 2))) ∷ []) (held_by (get_or m.now at 0) (two_at m.now (at + 2)) (four_at m.now (at + 4))) }
 {
     let kind = m[at];
     if kind == FREE {
-        return Head::Free(read_u32(m, at + 4) as usize);
+        return Ok(Head::Free(read_u32(m, at + 4) as usize));
     }
     let len = read_u16(m, at + 2) as usize;
     if kind == LEAF {
         if len <= MAX_BYTES {
-            return Head::Leaf(len);
+            return Ok(Head::Leaf(len));
         }
-        return Head::Refused(Refusal::Memory);
+        return Err(Refusal::Memory);
     }
     if kind == LIST {
         if len <= MAX_CHILDREN {
-            return Head::List(len);
+            return Ok(Head::List(len));
         }
     }
-    Head::Refused(Refusal::Memory)
+    Err(Refusal::Memory)
 }
 
 // What a slot holds: refused by 2 also where its kind is none of the three, or its length above the most.
-pub fn head_of(m: &[u8], slot: usize) -> Head
+pub fn head_of(m: &[u8], slot: usize) -> Answer<Head>
     ensures { held result ≡ head_of m.now slot }
 {
-    match slot_start(m, slot) {
-        Number::Refused(r) => Head::Refused(r),
-        Number::Is(at) => head_at(m, at),
-    }
+    let at = slot_start(m, slot)?;
+    head_at(m, at)
 }
 
 // Writes the head of the slot that begins at `at`.
@@ -131,56 +117,49 @@ fn put_head(m: &mut [u8], at: usize, kind: u8, len: u32, next: u32)
 }
 
 // Writes a slot's head: refused by 11 where the length is above `most`.
-fn set_head(m: &mut [u8], slot: usize, kind: u8, len: usize, most: usize, next: u32) -> Verdict
+fn set_head(m: &mut [u8], slot: usize, kind: u8, len: usize, most: usize, next: u32) -> Answer<()>
     requires { most ≤ 512 }
     ensures { Wrote (head_set m.old slot kind len most next) m.old result m.new }
 {
-    match slot_start(m, slot) {
-        Number::Refused(r) => Verdict::Refused(r),
-        Number::Is(at) => {
-            if most < len {
-                return Verdict::Refused(Refusal::Size);
-            }
-            put_head(m, at, kind, len as u32, next);
-            Verdict::Accepted
-        }
+    let at = slot_start(m, slot)?;
+    if most < len {
+        return Err(Refusal::Size);
     }
+    put_head(m, at, kind, len as u32, next);
+    Ok(())
 }
 
 // Makes a slot free, with the next free one.
-pub fn set_free(m: &mut [u8], slot: usize, next: u32) -> Verdict
+pub fn set_free(m: &mut [u8], slot: usize, next: u32) -> Answer<()>
     ensures { Wrote (free_set m.old slot next) m.old result m.new }
 {
     set_head(m, slot, FREE, 0, 0, next)
 }
 
 // Makes a slot a leaf of a length: its text is what lies in the region.
-pub fn set_leaf(m: &mut [u8], slot: usize, len: usize) -> Verdict
+pub fn set_leaf(m: &mut [u8], slot: usize, len: usize) -> Answer<()>
     ensures { Wrote (leaf_set m.old slot len) m.old result m.new }
 {
     set_head(m, slot, LEAF, len, MAX_BYTES, 0)
 }
 
 // Makes a slot a list of so many children: they are what lies in the region.
-pub fn set_list(m: &mut [u8], slot: usize, len: usize) -> Verdict
+pub fn set_list(m: &mut [u8], slot: usize, len: usize) -> Answer<()>
     ensures { Wrote (list_set m.old slot len) m.old result m.new }
 {
     set_head(m, slot, LIST, len, MAX_CHILDREN, 0)
 }
 
 // Where an entry of a slot's child list begins: refused by 3 where there is none of that number.
-fn kid_start(m: &[u8], slot: usize, i: usize) -> Number
-    ensures { number result ≡ ruled (no_slot m.now slot ∷ no_entry i ∷ []) (kid_start slot i) }
+fn kid_start(m: &[u8], slot: usize, i: usize) -> Answer<usize>
+    ensures { outcome result ≡ ruled (no_slot m.now slot ∷ no_entry i ∷ []) (kid_start slot i) }
 {
-    let start = slot_start(m, slot);
-    let Number::Is(at) = start else {
-        return start;
-    };
+    let at = slot_start(m, slot)?;
     if MAX_CHILDREN <= i {
-        return Number::Refused(Refusal::Place);
+        return Err(Refusal::Place);
     }
     let j = REGION_AT + KID_BYTES * i;
-    Number::Is(at + j)
+    Ok(at + j)
 }
 
 // The counts of the child in the 20 bytes from `at` on.
@@ -207,33 +186,26 @@ fn kid_at(m: &[u8], at: usize) -> Kid
 }
 
 // An entry of a slot's child list, whatever the slot's head says.
-pub fn kid_of(m: &[u8], slot: usize, i: usize) -> Entry
-    ensures { entry result ≡ kid_of m.now slot i }
+pub fn kid_of(m: &[u8], slot: usize, i: usize) -> Answer<Kid>
+    ensures { outcome result ≡ kid_of m.now slot i }
 {
-    match kid_start(m, slot, i) {
-        Number::Refused(r) => Entry::Refused(r),
-        Number::Is(at) => Entry::Is(kid_at(m, at)),
-    }
+    let at = kid_start(m, slot, i)?;
+    Ok(kid_at(m, at))
 }
 
 // The slot of an entry's child alone, and its counts alone: a search and a sum read many entries, and no more of each than they need.
-pub fn child_of(m: &[u8], slot: usize, i: usize) -> Number
-    ensures { number result ≡ child_of m.now slot i }
+pub fn child_of(m: &[u8], slot: usize, i: usize) -> Answer<usize>
+    ensures { outcome result ≡ child_of m.now slot i }
 {
-    let place = kid_start(m, slot, i);
-    let Number::Is(at) = place else {
-        return place;
-    };
-    Number::Is(read_u32(m, at) as usize)
+    let at = kid_start(m, slot, i)?;
+    Ok(read_u32(m, at) as usize)
 }
 
-pub fn info_of(m: &[u8], slot: usize, i: usize) -> Info
-    ensures { info result ≡ info_of m.now slot i }
+pub fn info_of(m: &[u8], slot: usize, i: usize) -> Answer<TextInfo>
+    ensures { outcome result ≡ info_of m.now slot i }
 {
-    match kid_start(m, slot, i) {
-        Number::Refused(r) => Info::Refused(r),
-        Number::Is(at) => Info::Is(info_at(m, at)),
-    }
+    let at = kid_start(m, slot, i)?;
+    Ok(info_at(m, at))
 }
 
 // Writes a child into the 20 bytes from `at` on.
@@ -250,35 +222,27 @@ fn put_kid(m: &mut [u8], at: usize, k: Kid)
 }
 
 // Writes an entry of a slot's child list. The promise adds that a child's numbers have 32 bits, for the laws of `entries`.
-pub fn set_kid(m: &mut [u8], slot: usize, i: usize, k: Kid) -> Verdict
+pub fn set_kid(m: &mut [u8], slot: usize, i: usize, k: Kid) -> Answer<()>
     ensures { Wrote (kid_set m.old slot i k) m.old result m.new × Fits k }
 {
-    match kid_start(m, slot, i) {
-        Number::Refused(r) => Verdict::Refused(r),
-        Number::Is(at) => {
-            put_kid(m, at, k);
-            Verdict::Accepted
-        }
-    }
+    let at = kid_start(m, slot, i)?;
+    put_kid(m, at, k);
+    Ok(())
 }
 
 // Writes other counts into an entry of a slot's child list.
-pub fn set_info(m: &mut [u8], slot: usize, i: usize, new: TextInfo) -> Verdict
+pub fn set_info(m: &mut [u8], slot: usize, i: usize, new: TextInfo) -> Answer<()>
     ensures { Wrote (info_set m.old slot i new) m.old result m.new }
 {
-    match kid_start(m, slot, i) {
-        Number::Refused(r) => Verdict::Refused(r),
-        Number::Is(at) => {
-            let child = read_u32(m, at);
-            put_kid(
-                m,
-                at,
-                Kid {
-                    slot: child,
-                    info: new,
-                },
-            );
-            Verdict::Accepted
-        }
-    }
+    let at = kid_start(m, slot, i)?;
+    let child = read_u32(m, at);
+    put_kid(
+        m,
+        at,
+        Kid {
+            slot: child,
+            info: new,
+        },
+    );
+    Ok(())
 }

@@ -5,11 +5,11 @@
 ghost use Rattle.std.specs.Prelude.{◌≡◌, ◌+◌, ◌<◌, ◌^◌, length};
 ghost use Rattle.plain.specs.Outcome.{mapped};
 ghost use Rattle.plain_note.specs.Note.{read_from};
-ghost use Rattle.answer.specs.Answers.{verdict};
+ghost use Rattle.answer.specs.Answers.{outcome};
 ghost use Rattle.memory.specs.Formed.{of_note};
 ghost use Rattle.reader.specs.Handed.{pool_at, run_at, behind_of};
 
-use answer::Verdict;
+use answer::Answer;
 use leaf_parts::from_char;
 use note_head::{chars_of, own_part};
 use runs::run_refusal;
@@ -27,7 +27,7 @@ pub struct Reader<'a> {
 fn pool_at(m: &[u8], p: usize) -> &[u8]
     ensures { result.now ≡ pool_at m.now p }
 {
-    let Verdict::Accepted = run_refusal(m, p) else {
+    let Ok(()) = run_refusal(m, p) else {
         return &m[..0];
     };
     m
@@ -53,8 +53,8 @@ fn place_behind(m: &[u8], p: usize) -> usize
 // ── the reader ──
 
 // The companion of `reader_at`: its refusal, or none.
-pub fn reader_refusal(m: &[u8], p: usize) -> Verdict
-    ensures { verdict result ≡ mapped (λ t. tt) (of_note m.now (λ N. read_from N p)) }
+pub fn reader_refusal(m: &[u8], p: usize) -> Answer<()>
+    ensures { outcome result ≡ mapped (λ t. tt) (of_note m.now (λ N. read_from N p)) }
 {
     run_refusal(m, p)
 }

@@ -1,4 +1,5 @@
 -- A turn and a read as steps of the program, and why a turn is refused.
+use Rattle.std.specs.Prelude.{Ok, Err, Result}
 use mathlib.Core.Path.{◌≡◌, refl, sym, ap, subst, ◌∙◌}
 use mathlib.Core.Bool.{Bool, true, false}
 use mathlib.Core.List.{List, [], ◌++◌}
@@ -12,25 +13,19 @@ use Rattle.plain.specs.Outcome.{mapped}
 use Rattle.plain.proofs.Logic.{cut}
 use Rattle.plain.proofs.Outcome.{clash, one-passed}
 use Rattle.answer.specs.declared.Refusal.{Refusal}
-use Rattle.answer.specs.declared.Verdict.{Verdict}
-use Rattle.answer.specs.declared.Verdict.TheVariants as Verdict·case
-use Rattle.answer.specs.Answers.{refusal_number, verdict}
+use Rattle.answer.specs.Answers.{refusal_number, Answer, outcome}
 use Rattle.pool.specs.Calls.{Wrote}
 use Rattle.opening.specs.Opened.{misfit, opened_memory, opens}
 use Rattle.journal.specs.declared.State.{State}
-use Rattle.journal.specs.declared.Turned.{Turned}
-use Rattle.journal.specs.declared.Turned.TheVariants as Turned·case
 use Rattle.plain_note.specs.Note.{opened, need}
 use Rattle.memory.specs.Formed.{well_formed, note_of}
 use Rattle.plain_journal.specs.Replay.{slots}
-use Rattle.journal.specs.Turns.{started, Advances, Turns, Taken, turned}
+use Rattle.journal.specs.Turns.{started, Advances, Turns, Taken}
 use Rattle.journal.specs.Runs.{Runs.starts, Runs.turns, Runs.reads, Runs.ends}
 use Rattle.journal.proofs.Turns.{turn-taken}
 use Rattle.journal.proofs.Runs.{run-formed}
 use Rattle.recorder.specs.declared.Fault.{Fault}
 use Rattle.recorder.specs.declared.Fault.TheVariants.{Fields, Read}
-use Rattle.recorder.specs.declared.Pumped.{Pumped}
-use Rattle.recorder.specs.declared.Pumped.TheVariants.{On, Failed}
 use Rattle.recorder.specs.Program.{turns_in, Running, Reads, Fails, Pumps}
 
 -- ── a read ──
@@ -53,11 +48,11 @@ unfolding turns_in
 start-runs m b st ok is e = subst (λ (x : State). Running m b x 0) (sym e) (record { came = []; wrote = []; runs = starts m b ok is; count = refl; fill-le = omega arith })
 
 -- memory of what 80 slots need is not refused
-pub start-accepted : (m after : List ℕ) (r : Verdict) (q : Refusal) → Wrote (opens m slots) m r after → need slots ≤ length m → r ≡ Verdict·case.Refused q → ⊥
+pub start-accepted : (m after : List ℕ) (r : Answer (Unit {0})) (q : Refusal) → Wrote (opens m slots) m r after → need slots ≤ length m → r ≡ Err q → ⊥
 unfolding opens
 start-accepted m after r q w h e =
     let fits : misfit slots (length m) ≡ false = le-ltb (length m) (need slots) h in
-    clash (refusal_number q) tt (ap verdict (sym e) ∙ w.answered ∙ ap (mapped (λ t. tt)) (one-passed 1 (misfit slots (length m)) (opened_memory m slots) fits))
+    clash (refusal_number q) tt (ap outcome (sym e) ∙ w.answered ∙ ap (mapped (λ t. tt)) (one-passed 1 (misfit slots (length m)) (opened_memory m slots) fits))
 
 -- ── a turn ──
 
@@ -74,7 +69,7 @@ module _ (m m' b b' o o' : List ℕ) (st r : State) (on : st.over ≡ false) (a 
       }
 
   -- and a read behind it, where it used nothing
-  read-on : (b'' : List ℕ) (s : State) → r.over ≡ false → r.fill ≡ st.fill → Reads b' b'' r (On s) → (n : ℕ) → Running m b st n → Running m' b'' s (n + 1)
+  read-on : (b'' : List ℕ) (s : State) → r.over ≡ false → r.fill ≡ st.fill → Reads b' b'' r (Ok s) → (n : ℕ) → Running m b st n → Running m' b'' s (n + 1)
   unfolding turns_in
   read-on b'' s over f w n run = go s.last refl
     where
@@ -119,28 +114,28 @@ module _ (m m' b b' o o' : List ℕ) (st r : State) (on : st.over ≡ false) (a 
             fill-le = w.1;
           }
 
-  pub read-runs : (b'' : List ℕ) (x : Pumped) → r.over ≡ false → r.fill ≡ st.fill → Reads b' b'' r x → Pumps m m' b b'' st x
-  read-runs b'' (Failed why) over f w = subst (λ (y : Fault). Fails m m' b b'' st y) (sym w) (b', o, o', r, a, over)
-  read-runs b'' (On s) over f w = read-on b'' s over f w
+  pub read-runs : (b'' : List ℕ) (x : Result State Fault) → r.over ≡ false → r.fill ≡ st.fill → Reads b' b'' r x → Pumps m m' b b'' st x
+  read-runs b'' (Err why) over f w = subst (λ (y : Fault). Fails m m' b b'' st y) (sym w) (b', o, o', r, a, over)
+  read-runs b'' (Ok s) over f w = read-on b'' s over f w
 
 -- a turn that was taken
-pub taken_is : (m m' b b' o o' : List ℕ) (st r : State) (t : Turned) → Turns m m' b b' st o o' t → t ≡ Turned·case.On r → st.over ≡ false → Advances m m' b b' st o o' r
-taken_is m m' b b' o o' st r t w e on = (subst (λ (x : Turned). Taken m m' b b' st o o' (turned x)) e w.taken).1 on
+pub taken_is : (m m' b b' o o' : List ℕ) (st r : State) (t : Answer State) → Turns m m' b b' st o o' t → t ≡ Ok r → st.over ≡ false → Advances m m' b b' st o o' r
+taken_is m m' b b' o o' st r t w e on = (subst (λ (x : Answer State). Taken m m' b b' st o o' (outcome x)) e w.taken).1 on
 
 -- THEOREM: where the buffers are long enough, a turn of the program is refused only where its fields run out of numbers.
-pub refused-is : (m m' b b' o o' : List ℕ) (st : State) (q : Refusal) (t : Turned) (n : ℕ) → Running m b st n → 20690 ≤ length o → Turns m m' b b' st o o' t → t ≡ Turned·case.Refused q → Fails m m' b b' st Fields
+pub refused-is : (m m' b b' o o' : List ℕ) (st : State) (q : Refusal) (t : Answer State) (n : ℕ) → Running m b st n → 20690 ≤ length o → Turns m m' b b' st o o' t → t ≡ Err q → Fails m m' b b' st Fields
 refused-is m m' b b' o o' st q t n run room w e =
     cut (2 ^ 64 - 1 - st.fill) st.k
     (λ l. (l, left.0, left.1))
-    (λ l. clash (refusal_number q) tt (ap (λ (x : Turned). mapped {B = Unit {0}} (λ s. tt) (turned x)) (sym e) ∙ w.answered ∙ sym (turn-taken m b o st (run-formed run.came run.wrote m b st run.runs) run.fill-le l room)))
+    (λ l. clash (refusal_number q) tt (ap (λ (x : Answer State). mapped {B = Unit {0}} (λ s. tt) (outcome x)) (sym e) ∙ w.answered ∙ sym (turn-taken m b o st (run-formed run.came run.wrote m b st run.runs) run.fill-le l room)))
   where
     left : (m' ≡ m) × (b' ≡ b) × (o' ≡ o)
-    left = subst (λ (x : Turned). Taken m m' b b' st o o' (turned x)) e w.taken
+    left = subst (λ (x : Answer State). Taken m m' b b' st o o' (outcome x)) e w.taken
 
 -- ── what became of a step ──
 
-pub pumps-on : (m m' b b' : List ℕ) (st : State) (x : Pumped) (r : State) → Pumps m m' b b' st x → x ≡ On r → (n : ℕ) → Running m b st n → Running m' b' r (n + 1)
-pumps-on m m' b b' st x r w e = subst (λ (y : Pumped). Pumps m m' b b' st y) e w
+pub pumps-on : (m m' b b' : List ℕ) (st : State) (x : Result State Fault) (r : State) → Pumps m m' b b' st x → x ≡ Ok r → (n : ℕ) → Running m b st n → Running m' b' r (n + 1)
+pumps-on m m' b b' st x r w e = subst (λ (y : Result State Fault). Pumps m m' b b' st y) e w
 
-pub pumps-failed : (m m' b b' : List ℕ) (st : State) (x : Pumped) (why : Fault) → Pumps m m' b b' st x → x ≡ Failed why → Fails m m' b b' st why
-pumps-failed m m' b b' st x why w e = subst (λ (y : Pumped). Pumps m m' b b' st y) e w
+pub pumps-failed : (m m' b b' : List ℕ) (st : State) (x : Result State Fault) (why : Fault) → Pumps m m' b b' st x → x ≡ Err why → Fails m m' b b' st why
+pumps-failed m m' b b' st x why w e = subst (λ (y : Result State Fault). Pumps m m' b b' st y) e w

@@ -7,8 +7,7 @@ ghost use Rattle.plain_note.specs.Note.{need};
 ghost use Rattle.plain_journal.specs.Replay.{slots};
 ghost use Rattle.recorder.specs.Program.{Running, Reads, Pumps, Ended};
 
-use answer::Verdict;
-use journal::{SLOTS, State, Turned};
+use journal::{SLOTS, State};
 use pool::{HEAD_BYTES, SLOT_BYTES};
 use std::io::{Read, Write};
 
@@ -21,18 +20,10 @@ enum Fault {
     Write,
 }
 
-// What became of a turn: the program goes on, or it ends.
-#[derive(Clone, Copy)]
-enum Pumped {
-    On(State),
-    Failed(Fault),
-}
-
-// How a run ended: the listing is complete, something failed, or all turns are taken.
+// How a run ended that met no fault: the listing is complete, or all turns are taken.
 #[derive(Clone, Copy)]
 enum Ran {
     Over,
-    Failed(Fault),
     Long,
 }
 
@@ -46,16 +37,15 @@ fn memory() -> [u8; MEMORY]
 }
 
 // Reads once, behind what the buffer holds. A read that gives nothing is the input's end.
-fn read_more<R: Read>(input: &mut R, buf: &mut [u8], st: State) -> Pumped
+fn read_more<R: Read>(input: &mut R, buf: &mut [u8], st: State) -> Result<State, Fault>
     requires { st.fill < length buf.old }
     ensures { Reads buf.old buf.new st result }
 {
     let fill = st.fill;
-    let got = input.read(&mut buf[fill..]);
-    let Ok(n) = got else {
-        return Pumped::Failed(Fault::Read);
+    let Ok(n) = input.read(&mut buf[fill..]) else {
+        return Err(Fault::Read);
     };
-    Pumped::On(State {
+    Ok(State {
         fill: fill + n,
         k: st.k,
         last: n == 0,
@@ -72,57 +62,49 @@ fn pump<R: Read, W: Write>(
     buf: &mut [u8],
     st: State,
     out: &mut [u8],
-) -> Pumped
+) -> Result<State, Fault>
     requires { ((n : ℕ) × Running m.old buf.old st n) × (st.over ≡ false) × (65538 ≤ length buf.old) × (20690 ≤ length out.old) }
     ensures { Pumps m.old m.new buf.old buf.new st result }
 {
     let fill = st.fill;
-    let turned = journal::turn(m, buf, st, out);
-    let Turned::On(r) = turned else {
-        return Pumped::Failed(Fault::Fields);
+    let Ok(r) = journal::turn(m, buf, st, out) else {
+        return Err(Fault::Fields);
     };
     let put = r.put;
-    let wrote = output.write_all(&out[..put]);
-    if wrote.is_err() {
-        return Pumped::Failed(Fault::Write);
+    if output.write_all(&out[..put]).is_err() {
+        return Err(Fault::Write);
     }
     if r.over {
-        return Pumped::On(r);
+        return Ok(r);
     }
     if r.fill < fill {
-        return Pumped::On(r);
+        return Ok(r);
     }
     read_more(input, buf, r)
 }
 
-// A proved loop has to end, and nothing says that the input does: the turns are counted down from a number that no run uses up.
+// A proved loop has to end, and nothing says that the input does: the turns are counted up to a number that no run comes to.
 fn run<R: Read, W: Write>(
     input: &mut R,
     output: &mut W,
     m: &mut [u8],
     buf: &mut [u8],
     out: &mut [u8],
-) -> Ran
+) -> Result<Ran, Fault>
     requires { (need slots ≤ length m.old) × (65538 ≤ length buf.old) × (20690 ≤ length out.old) }
     ensures { Ended m.new buf.new result }
 {
-    let opened = journal::start(m);
-    let Verdict::Accepted = opened else {
-        return Ran::Failed(Fault::Memory);
+    let Ok(()) = journal::start(m) else {
+        return Err(Fault::Memory);
     };
     let mut st = journal::started();
-    let mut turns = u64::MAX;
-    while turns > 0 && !st.over {
-        let pumped = pump(input, output, m, buf, st, out);
-        match pumped {
-            Pumped::On(next) => {
-                st = next;
-                turns -= 1;
-            }
-            Pumped::Failed(why) => return Ran::Failed(why),
+    for _turn in 0..u64::MAX {
+        if st.over {
+            return Ok(Ran::Over);
         }
+        st = pump(input, output, m, buf, st, out)?;
     }
-    if st.over { Ran::Over } else { Ran::Long }
+    Ok(if st.over { Ran::Over } else { Ran::Long })
 }
 
 // A message that cannot be written is let go.
@@ -148,8 +130,8 @@ fn main(rt: HostRuntime) {
     let mut out = [0u8; 65536];
     let ran = run(&mut input, &mut output, &mut space, &mut buf, &mut out);
     match ran {
-        Ran::Over => {}
-        Ran::Failed(why) => tell_fault(&mut errors, why),
-        Ran::Long => tell(&mut errors, b"recorder: the journal has too many fields\n"),
+        Ok(Ran::Over) => {}
+        Err(why) => tell_fault(&mut errors, why),
+        Ok(Ran::Long) => tell(&mut errors, b"recorder: the journal has too many fields\n"),
     }
 }

@@ -1,10 +1,10 @@
 -- The sum of the counts, before and after one of them goes up.
-use mathlib.Core.Path.{◌≡◌, ◌∙◌}
+use mathlib.Core.Path.{◌≡◌}
 use mathlib.Core.List.{List, [], ◌∷◌}
 use Prim.Native.Nat.{ℕ, zero, suc, ◌+◌, ◌≤◌, ◌<◌}
 use native.Mathlib.Omega.{arith}
 use lib.ListN.{length, get_or, set}
-use Rattle.replay.specs.Turns.{sum, Counted, Sums}
+use Rattle.replay.specs.Turns.{sum}
 
 -- no count is above the sum
 pub at_most : (xs : List ℕ) (i : ℕ) → get_or xs i 0 ≤ sum xs
@@ -19,11 +19,3 @@ unfolding sum
 one_more [] i h = omega arith
 one_more (x ∷ xs) zero h = omega arith
 one_more (x ∷ xs) (suc i) h = omega (arith, one_more xs i (omega arith))
-
--- the counts with one more add up to one more
-pub counted : {xs ys : List ℕ} {f n : ℕ} → Sums xs n → Counted xs f ys → Sums ys (n + 1)
-counted s h = (h.long ∙ s.0, omega (arith, h.total, s.1))
-
--- the same under other names
-pub moved : {xs ys : List ℕ} {n m : ℕ} → xs ≡ ys → n ≡ m → Sums ys m → Sums xs n
-moved e k s = rw (e, k) s

@@ -2,8 +2,7 @@
 use Rattle.std.specs.Prelude.{◌≡◌, Bool, true, cond, List, ℕ, eqb, length}
 use Rattle.plain.specs.Outcome.{Outcome, Outcome.value, Outcome.refused, mapped}
 use Rattle.replay.specs.Answer.{given}
-use Rattle.replay.specs.declared.input.Turn.{Turn}
-use Rattle.replay.specs.declared.input.Turn.TheVariants as Turn·case
+use Rattle.replay.specs.declared.input.Case.{Case}
 
 -- the recorded outcome: a refusal's number, or 0 and the two leaves
 abbrev pub recorded : ℕ → List ℕ → List ℕ → Outcome (List ℕ × List ℕ)
@@ -14,7 +13,5 @@ abbrev pub Agrees : Bool → Outcome (List ℕ × List ℕ) → Outcome (List �
 Agrees s a b = (s ≡ true → a ≡ b) × (a ≡ b → s ≡ true)
 
 -- a case has the refusal that is due, or the left leaf's length, and says whether the outcome is the one that was recorded
-abbrev pub LeavesJudged : Outcome (List ℕ × List ℕ) → Outcome (List ℕ × List ℕ) → Turn → Type 0
-LeavesJudged due was (Turn·case.Case f g s) = (g ≡ given (mapped (λ t. length t.0) due)) × Agrees s due was
-LeavesJudged due was Turn·case.End = Unit {0}
-LeavesJudged due was Turn·case.Bad = Unit {0}
+abbrev pub LeavesJudged : Outcome (List ℕ × List ℕ) → Outcome (List ℕ × List ℕ) → Case → Type 0
+LeavesJudged due was x = (x.given ≡ given (mapped (λ t. length t.0) due)) × Agrees x.is_same due was

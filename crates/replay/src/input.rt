@@ -1,15 +1,19 @@
 // The records of standard input. A record of the text layer is 8 bytes of head (the function's number, the index in four bytes, the bias,
 // the text's length in two bytes), the text, and 5 bytes of tail (the number of a refusal, the value in four bytes). Numbers of several
 // bytes have the most significant first. The numbers above 21 are for the leaf's calls.
-ghost use Rattle.std.specs.Prelude.{◌≡◌, not, eqb, get_or};
+ghost use Rattle.std.specs.Prelude.{◌≡◌, not, eqb, get_or, IfOk, IfSome};
+ghost use Rattle.octets.specs.Big.{four_at};
 ghost use Rattle.text_calls.specs.Asked.{asked_by};
-ghost use Rattle.replay.specs.Answer.{given};
-ghost use Rattle.replay.specs.Big.{two as Big·two, four as Big·four, four_at};
+ghost use Rattle.replay.specs.Answer.{recorded};
 ghost use Rattle.replay.specs.Turns.{Known, Judged};
 
-use crate::given::{Given, of_number, same};
 use crate::leaves;
+use octets::{number_at, two_at};
+use std::io;
 use std::io::Read;
+
+// An answer, ours or a recorded one: a value, or the number of a refusal.
+pub type Given = Result<usize, u8>;
 
 // What a record asks for: a call of the text layer by its number.
 #[derive(Clone, Copy)]
@@ -19,28 +23,22 @@ struct Call {
     bias_left: bool,
 }
 
-// What reading finds: a record, with our answer and whether it is the recorded one; the end; or what is no record.
+// A record with our answer, and whether it is the recorded one.
 #[derive(Clone, Copy)]
-pub enum Turn {
-    Case {
-        function: usize,
-        given: Given,
-        is_same: bool,
-    },
-    End,
-    Bad,
+pub struct Case {
+    pub function: usize,
+    pub given: Given,
+    pub is_same: bool,
 }
 
-pub(crate) fn two(a: u8, b: u8) -> usize
-    ensures { result ≡ Big·two a b }
-{
-    (a as usize) * 256 + (b as usize)
-}
+// The input goes on with what is no record.
+#[derive(Clone, Copy, Debug)]
+pub struct BadRecord;
 
-fn four(a: u8, b: u8, c: u8, d: u8) -> usize
-    ensures { result ≡ Big·four a b c d }
-{
-    two(a, b) * 65536 + two(c, d)
+impl From<io::Error> for BadRecord {
+    fn from(_error: io::Error) -> BadRecord {
+        BadRecord
+    }
 }
 
 fn call_of(head: &[u8; 8]) -> Call
@@ -48,73 +46,64 @@ fn call_of(head: &[u8; 8]) -> Call
 {
     Call {
         function: head[0],
-        index: four(head[1], head[2], head[3], head[4]),
+        index: number_at(head, 1) as usize,
         bias_left: head[5] != 0,
     }
 }
 
-fn recorded(tail: &[u8; 5]) -> Given
-    ensures { (result.refusal ≡ get_or tail.now 0 0) × (result.value ≡ four_at tail.now 1) }
+// The recorded answer. A refusal has no value, and what has one beside it is the answer of no call.
+fn recorded(tail: &[u8; 5]) -> Option<Given>
+    ensures { result ≡ recorded (get_or tail.now 0 0) (four_at tail.now 1) }
 {
-    Given {
-        refusal: tail[0],
-        value: four(tail[1], tail[2], tail[3], tail[4]),
+    match (tail[0], number_at(tail, 1) as usize) {
+        (0, value) => Some(Ok(value)),
+        (refusal, 0) => Some(Err(refusal)),
+        _ => None,
     }
 }
 
 // Our answer, beside the recorded one.
-fn judge(c: Call, text: &[u8], was: Given) -> Turn
-    ensures { Known result × Judged (given (asked_by c.function c.index c.bias_left text.now)) was result }
+fn judge(c: Call, text: &[u8], was: Option<Given>) -> Result<Case, BadRecord>
+    ensures { IfOk result (λ x. Known x × Judged (asked_by c.function c.index c.bias_left text.now) was x) }
 {
-    let f = c.function;
-    if f == 0 {
-        return Turn::Bad;
+    if !(1..=21).contains(&c.function) {
+        return Err(BadRecord);
     }
-    if 21 < f {
-        return Turn::Bad;
-    }
-    let given = of_number(text_calls::ask_by(f, c.index, c.bias_left, text));
-    Turn::Case {
-        function: f as usize,
+    let given = text_calls::ask_by(c.function, c.index, c.bias_left, text).map_err(u8::from);
+    Ok(Case {
+        function: usize::from(c.function),
         given,
-        is_same: same(given, was),
-    }
+        is_same: was == Some(given),
+    })
 }
 
 // The rest of a record, whose text has n bytes.
-fn read_body<R: Read>(input: &mut R, c: Call, n: usize) -> Turn
-    ensures { Known result }
+fn read_body<R: Read>(input: &mut R, c: Call, n: usize) -> Result<Case, BadRecord>
+    ensures { IfOk result Known }
 {
-    if 4096 < n {
-        return Turn::Bad;
-    }
     let mut text = [0u8; 4096];
-    if input.read_exact(&mut text[..n]).is_err() {
-        return Turn::Bad;
+    if text.len() < n {
+        return Err(BadRecord);
     }
+    input.read_exact(&mut text[..n])?;
     let mut tail = [0u8; 5];
-    if input.read_exact(&mut tail).is_err() {
-        return Turn::Bad;
-    }
-    let was = recorded(&tail);
-    judge(c, &text[..n], was)
+    input.read_exact(&mut tail)?;
+    judge(c, &text[..n], recorded(&tail))
 }
 
 // Reads one record and asks for our answer. The input ends where a read gives nothing in front of a record.
-pub(crate) fn next<R: Read>(input: &mut R) -> Turn
-    ensures { Known result }
+pub(crate) fn next<R: Read>(input: &mut R) -> Result<Option<Case>, BadRecord>
+    ensures { IfOk result (λ x. IfSome x Known) }
 {
     let mut head = [0u8; 8];
     let Ok(1) = input.read(&mut head[..1]) else {
-        return Turn::End;
+        return Ok(None);
     };
-    if input.read_exact(&mut head[1..]).is_err() {
-        return Turn::Bad;
-    }
-    if 21 < head[0] {
-        return leaves::read(input, head[0] - 21, &head);
-    }
-    let c = call_of(&head);
-    let n = two(head[6], head[7]);
-    read_body(input, c, n)
+    input.read_exact(&mut head[1..])?;
+    let case = if 21 < head[0] {
+        leaves::read(input, head[0] - 21, &head)?
+    } else {
+        read_body(input, call_of(&head), two_at(&head, 6) as usize)?
+    };
+    Ok(Some(case))
 }

@@ -2,14 +2,15 @@
 // the leaf's length in two bytes), the leaf, the length in two bytes of the piece or the right leaf, that, and the tail: the number of a
 // refusal, the lengths in two bytes each of the two leaves afterwards, and these, which are empty beside a refusal. All regions have 512
 // bytes, and of a leaf no more is in the record.
+ghost use Rattle.std.specs.Prelude.{IfOk};
 ghost use Rattle.plain.specs.Outcome.{Outcome.value};
 ghost use Rattle.leaf_calls.specs.Asked.{asked_by};
 ghost use Rattle.replay.specs.Leaves.{recorded, Agrees, LeavesJudged};
 ghost use Rattle.replay.specs.Turns.{Known};
 
-use crate::given::Given;
-use crate::input::{Turn, two};
-use answer::Sides;
+use crate::input::{BadRecord, Case};
+use octets::two_at;
+use std::io;
 use std::io::Read;
 
 // What a record asks for: a leaf's call by its number.
@@ -31,60 +32,51 @@ fn judge(
     refusal: u8,
     was_left: &[u8],
     was_right: &[u8],
-) -> Turn
-    ensures { Known result × LeavesJudged (asked_by q.call left.old q.len q.start q.end piece.now right.old q.right_len) (recorded refusal was_left.now was_right.now) result }
+) -> Result<Case, BadRecord>
+    ensures { IfOk result (λ x. Known x × LeavesJudged (asked_by q.call left.old q.len q.start q.end piece.now right.old q.right_len) (recorded refusal was_left.now was_right.now) x) }
 {
-    let call = q.call;
-    if 10 < call {
-        return Turn::Bad;
+    if 10 < q.call {
+        return Err(BadRecord);
     }
-    let function = 21 + call as usize;
-    match leaf_calls::ask_by(call, left, q.len, q.start, q.end, piece, right, q.right_len) {
-        Sides::Refused(r) => {
-            let n = answer::number_of(r);
-            let given = Given {
-                refusal: n,
-                value: 0,
-            };
-            Turn::Case {
+    let function = 21 + usize::from(q.call);
+    let case = match leaf_calls::ask_by(
+        q.call,
+        left,
+        q.len,
+        q.start,
+        q.end,
+        piece,
+        right,
+        q.right_len,
+    ) {
+        Err(r) => {
+            let n = u8::from(r);
+            Case {
                 function,
-                given,
+                given: Err(n),
                 is_same: n == refusal,
             }
         }
-        Sides::Are(l, r) => {
-            let given = Given {
-                refusal: 0,
-                value: l,
-            };
-            Turn::Case {
-                function,
-                given,
-                is_same: same_leaves(&left[..l], &right[..r], refusal, was_left, was_right),
-            }
-        }
-    }
+        Ok((l, r)) => Case {
+            function,
+            given: Ok(l),
+            is_same: same_leaves(&left[..l], &right[..r], refusal, was_left, was_right),
+        },
+    };
+    Ok(case)
 }
 
 // Whether two leaves are the recorded ones.
 fn same_leaves(left: &[u8], right: &[u8], refusal: u8, was_left: &[u8], was_right: &[u8]) -> bool
     ensures { Agrees result (value (left.now, right.now)) (recorded refusal was_left.now was_right.now) }
 {
-    if refusal != 0 {
-        return false;
-    }
-    if !check::same(left, was_left) {
-        return false;
-    }
-    check::same(right, was_right)
+    refusal == 0 && left == was_left && right == was_right
 }
 
-// Reads a leaf into a region: as much of it as the region has. Whether that was there.
-fn read_leaf<R: Read>(input: &mut R, region: &mut [u8], len: usize) -> bool {
-    if len < region.len() {
-        return input.read_exact(&mut region[..len]).is_ok();
-    }
-    input.read_exact(region).is_ok()
+// Reads a leaf into a region: as much of it as the region has.
+fn read_leaf<R: Read>(input: &mut R, region: &mut [u8], len: usize) -> io::Result<()> {
+    let n = len.min(region.len());
+    input.read_exact(&mut region[..n])
 }
 
 // The tail of a record.
@@ -94,29 +86,20 @@ fn read_tail<R: Read>(
     left: &mut [u8],
     piece: &[u8],
     right: &mut [u8],
-) -> Turn
-    ensures { Known result }
+) -> Result<Case, BadRecord>
+    ensures { IfOk result Known }
 {
     let mut tail = [0u8; 5];
-    if input.read_exact(&mut tail).is_err() {
-        return Turn::Bad;
-    }
-    let l = two(tail[1], tail[2]);
-    let r = two(tail[3], tail[4]);
-    if 512 < l {
-        return Turn::Bad;
-    }
-    if 512 < r {
-        return Turn::Bad;
-    }
+    input.read_exact(&mut tail)?;
+    let l = two_at(&tail, 1) as usize;
+    let r = two_at(&tail, 3) as usize;
     let mut was_left = [0u8; 512];
     let mut was_right = [0u8; 512];
-    if !read_leaf(input, &mut was_left, l) {
-        return Turn::Bad;
+    if was_left.len() < l || was_right.len() < r {
+        return Err(BadRecord);
     }
-    if !read_leaf(input, &mut was_right, r) {
-        return Turn::Bad;
-    }
+    input.read_exact(&mut was_left[..l])?;
+    input.read_exact(&mut was_right[..r])?;
     judge(
         q,
         left,
@@ -129,38 +112,29 @@ fn read_tail<R: Read>(
 }
 
 // The record of the call with a number, from behind its head on.
-pub(crate) fn read<R: Read>(input: &mut R, call: u8, head: &[u8; 8]) -> Turn
-    ensures { Known result }
+pub(crate) fn read<R: Read>(input: &mut R, call: u8, head: &[u8; 8]) -> Result<Case, BadRecord>
+    ensures { IfOk result Known }
 {
-    let len = two(head[6], head[7]);
+    let len = two_at(head, 6) as usize;
     let mut left = [0u8; 512];
-    if !read_leaf(input, &mut left, len) {
-        return Turn::Bad;
-    }
+    read_leaf(input, &mut left, len)?;
     let mut size = [0u8; 2];
-    if input.read_exact(&mut size).is_err() {
-        return Turn::Bad;
-    }
-    let n = two(size[0], size[1]);
-    let right_len = if call == 10 { n } else { 0 };
+    input.read_exact(&mut size)?;
+    let n = two_at(&size, 0) as usize;
+    let (right_len, piece_len) = if call == 10 { (n, 0) } else { (0, n) };
     let mut right = [0u8; 512];
-    if !read_leaf(input, &mut right, right_len) {
-        return Turn::Bad;
-    }
-    let m = if call == 10 { 0 } else { n };
-    if 4096 < m {
-        return Turn::Bad;
-    }
+    read_leaf(input, &mut right, right_len)?;
     let mut piece = [0u8; 4096];
-    if input.read_exact(&mut piece[..m]).is_err() {
-        return Turn::Bad;
+    if piece.len() < piece_len {
+        return Err(BadRecord);
     }
+    input.read_exact(&mut piece[..piece_len])?;
     let q = Question {
         call,
         len,
-        start: two(head[1], head[2]),
-        end: two(head[3], head[4]),
+        start: two_at(head, 1) as usize,
+        end: two_at(head, 3) as usize,
         right_len,
     };
-    read_tail(input, q, &mut left, &piece[..m], &mut right)
+    read_tail(input, q, &mut left, &piece[..piece_len], &mut right)
 }

@@ -3,22 +3,27 @@
 // and stops.
 #![tactic(auto)]
 
-mod given;
 mod input;
 mod leaves;
 mod report;
 
-ghost use Rattle.std.specs.Prelude.{◌≡◌, ◌<◌, length};
-ghost use Rattle.replay.specs.Turns.{sum, Counted, Sums, Adds};
+ghost use Rattle.std.specs.Prelude.{◌≡◌, ◌<◌, length, IfOk};
+ghost use Rattle.replay.specs.Turns.{sum, Counted, Sums};
 
-use input::Turn;
 use std::io::Read;
 
-// How a run ended: how many records there were and how many differ, or the place, from 1, of what is no record.
+// How many cases each function has, and how many of them differ.
 #[derive(Clone, Copy)]
-enum Ran {
-    Whole { records: u32, missed: u32 },
-    Bad(u32),
+struct Counts {
+    cases: [u32; 32],
+    differ: [u32; 32],
+}
+
+// How many records there were, and how many of them differ.
+#[derive(Clone, Copy)]
+struct Totals {
+    records: u32,
+    missed: u32,
 }
 
 // One more for function f.
@@ -26,62 +31,49 @@ fn count(counts: &mut [u32; 32], f: usize)
     requires { (f < 32) × (length counts.old ≡ 32) × (sum counts.old < 4294967295) }
     ensures { Counted counts.old f counts.new }
 {
-    counts[f] = counts[f] + 1;
+    counts[f] += 1;
 }
 
-// Counts the cases and those that differ. A proved loop has to end, and nothing says that the input does, so it takes no more records
-// than a u32 counts.
-fn run<R: Read>(
-    input: &mut R,
-    rt: &impl Print,
-    cases: &mut [u32; 32],
-    differ: &mut [u32; 32],
-) -> Ran
-    requires { Sums cases.old 0 × Sums differ.old 0 }
-    ensures { Adds cases.new differ.new result }
+// Counts the cases and those that differ, or gives the place, from 1, of what is no record. A proved loop has to end, and nothing says
+// that the input does, so it takes no more records than a u32 counts.
+fn run<R: Read>(input: &mut R, rt: &impl Print, counts: &mut Counts) -> Result<Totals, u32>
+    requires { Sums counts.old.cases 0 × Sums counts.old.differ 0 }
+    ensures { IfOk result (λ t. Sums counts.new.cases t.records × Sums counts.new.differ t.missed) }
 {
-    let mut k: u32 = 0;
-    let mut missed: u32 = 0;
-    while k < u32::MAX {
-        let t = input::next(input);
-        match t {
-            Turn::End => {
-                return Ran::Whole { records: k, missed };
+    let mut missed = 0;
+    for k in 0..u32::MAX {
+        let case = match input::next(input) {
+            Ok(Some(case)) => case,
+            Ok(None) => return Ok(Totals { records: k, missed }),
+            Err(_) => return Err(k + 1),
+        };
+        count(&mut counts.cases, case.function);
+        if !case.is_same {
+            count(&mut counts.differ, case.function);
+            if missed == 0 {
+                report::write_first(rt, k + 1, case);
             }
-            Turn::Bad => {
-                return Ran::Bad(k + 1);
-            }
-            Turn::Case {
-                function,
-                given,
-                is_same,
-            } => {
-                count(cases, function);
-                if !is_same {
-                    count(differ, function);
-                    if missed == 0 {
-                        report::write_first(rt, k + 1, function, given);
-                    }
-                    missed += 1;
-                }
-            }
+            missed += 1;
         }
-        k += 1;
     }
-    Ran::Whole { records: k, missed }
+    Ok(Totals {
+        records: u32::MAX,
+        missed,
+    })
 }
 
+#[tactic(auto, unfolding(crate::specs::Turns::sum))]
 fn main(rt: HostRuntime) {
-    let mut input = rt.stdin();
-    let mut cases = [0u32; 32];
-    let mut differ = [0u32; 32];
-    let ran = run(&mut input, &rt, &mut cases, &mut differ);
-    match ran {
-        Ran::Bad(k) => report::write_bad(&rt, k),
-        Ran::Whole { records, missed } => {
-            report::write_functions(&rt, &cases, &differ);
+    let mut counts = Counts {
+        cases: [0; 32],
+        differ: [0; 32],
+    };
+    match run(&mut rt.stdin(), &rt, &mut counts) {
+        Err(k) => report::write_bad(&rt, k),
+        Ok(totals) => {
+            report::write_functions(&rt, &counts.cases, &counts.differ);
             report::write(&rt, b"replayed");
-            report::write_counts(&rt, records, missed);
+            report::write_counts(&rt, totals.records, totals.missed);
         }
     }
 }

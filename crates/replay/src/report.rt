@@ -1,5 +1,5 @@
 // The lines of standard output. One that cannot be written is let go.
-use crate::given::Given;
+use crate::input::Case;
 
 pub(crate) fn write(rt: &impl Print, text: &[u8]) {
     let _written = rt.write_all(text);
@@ -78,22 +78,20 @@ pub(crate) fn write_counts(rt: &impl Print, cases: u32, differ: u32) {
 
 // A line for each function that has cases.
 pub(crate) fn write_functions(rt: &impl Print, cases: &[u32; 32], differ: &[u32; 32]) {
-    let mut f: usize = 1;
-    while f < 32 {
+    for f in 1..32 {
         if 0 < cases[f] {
             write_name(rt, f);
             write_counts(rt, cases[f], differ[f]);
         }
-        f += 1;
     }
 }
 
 // The first record that differs: its place, from 1, its function and our answer.
-pub(crate) fn write_first(rt: &impl Print, k: u32, f: usize, given: Given) {
+pub(crate) fn write_first(rt: &impl Print, k: u32, case: Case) {
     write_with(rt, b"record ", k as u64);
-    write_with(rt, b": ", f as u64);
-    write_with(rt, b" refused ", given.refusal as u64);
-    write_with(rt, b" value ", given.value as u64);
+    write_with(rt, b": ", case.function as u64);
+    write_with(rt, b" refused ", case.given.err().unwrap_or(0) as u64);
+    write_with(rt, b" value ", case.given.unwrap_or(0) as u64);
     write(rt, b"\n");
 }
 

@@ -8,48 +8,41 @@ mod judge;
 mod memory;
 mod report;
 
-use input::Turn;
 use std::io::Read;
 
-// How a run ended: how many records there were and how many differ, or the place, from 1, of what is no record.
+// How many records there were, and how many of them differ.
 #[derive(Clone, Copy)]
-enum Ran {
-    Whole { records: u32, missed: u32 },
-    Bad(u32),
+struct Totals {
+    records: u32,
+    missed: u32,
 }
 
-// Counts the cases and those that differ. A proved loop has to end, and nothing says that the input does, so it takes no more records
-// than a u32 counts.
-fn run<R: Read>(input: &mut R, rt: &impl Print) -> Ran {
-    let mut k: u32 = 0;
-    let mut missed: u32 = 0;
-    while k < u32::MAX {
-        let t = input::next(input);
-        match t {
-            Turn::End => {
-                return Ran::Whole { records: k, missed };
+// Counts the cases and those that differ, or gives the place, from 1, of what is no record. A proved loop has to end, and nothing says
+// that the input does, so it takes no more records than a u32 counts.
+fn run<R: Read>(input: &mut R, rt: &impl Print) -> Result<Totals, u32> {
+    let mut missed = 0;
+    for k in 0..u32::MAX {
+        let case = match input::next(input) {
+            Ok(Some(case)) => case,
+            Ok(None) => return Ok(Totals { records: k, missed }),
+            Err(_) => return Err(k + 1),
+        };
+        if !case.is_same {
+            if missed == 0 {
+                report::write_first(rt, k + 1, case.call);
             }
-            Turn::Bad => {
-                return Ran::Bad(k + 1);
-            }
-            Turn::Case { call, is_same } => {
-                if !is_same {
-                    if missed == 0 {
-                        report::write_first(rt, k + 1, call);
-                    }
-                    missed += 1;
-                }
-            }
+            missed += 1;
         }
-        k += 1;
     }
-    Ran::Whole { records: k, missed }
+    Ok(Totals {
+        records: u32::MAX,
+        missed,
+    })
 }
 
 fn main(rt: HostRuntime) {
-    let mut input = rt.stdin();
-    match run(&mut input, &rt) {
-        Ran::Bad(k) => report::write_bad(&rt, k),
-        Ran::Whole { records, missed } => report::write_counts(&rt, records, missed),
+    match run(&mut rt.stdin(), &rt) {
+        Err(k) => report::write_bad(&rt, k),
+        Ok(totals) => report::write_counts(&rt, totals.records, totals.missed),
     }
 }

@@ -2,6 +2,8 @@
 // rest of the memory is zeros.
 ghost use Rattle.std.specs.Prelude.{◌≡◌, length};
 
+use crate::input::BadRecord;
+use octets::two_at;
 use pool::{HEAD_BYTES, REGION_AT, SLOT_BYTES};
 use std::io::Read;
 
@@ -12,90 +14,61 @@ pub(crate) fn room() -> [u8; 10624]
     [0; 10624]
 }
 
-pub(crate) fn two(a: u8, b: u8) -> usize {
-    (a as usize) * 256 + (b as usize)
+// Lays bytes into a memory where they fit.
+pub(crate) fn put(m: &mut [u8], at: usize, bytes: &[u8]) -> Result<(), BadRecord> {
+    if m.len() < at || m.len() - at < bytes.len() {
+        return Err(BadRecord);
+    }
+    m[at..at + bytes.len()].copy_from_slice(bytes);
+    Ok(())
 }
 
-// Lays bytes into a memory. Whether they fit there.
-pub(crate) fn put(m: &mut [u8], at: usize, bytes: &[u8]) -> bool {
-    if m.len() < at {
-        return false;
-    }
-    if m.len() - at < bytes.len() {
-        return false;
-    }
-    let mut k: usize = 0;
-    while k < bytes.len() {
-        m[at + k] = bytes[k];
-        k += 1;
-    }
-    true
-}
-
-// Reads the front of a region. Whether that was there.
-fn read_region<R: Read>(input: &mut R, region: &mut [u8], n: usize) -> bool {
+// Reads the front of a region.
+fn read_region<R: Read>(input: &mut R, region: &mut [u8], n: usize) -> Result<(), BadRecord> {
     if region.len() < n {
-        return false;
+        return Err(BadRecord);
     }
-    input.read_exact(&mut region[..n]).is_ok()
+    input.read_exact(&mut region[..n])?;
+    Ok(())
 }
 
-// Lays a slot's head and region into a memory. Whether they fit there.
-fn put_slot(m: &mut [u8], slot: u8, head: &[u8], region: &[u8]) -> bool {
-    let at = HEAD_BYTES + SLOT_BYTES * (slot as usize);
-    if !put(m, at, head) {
-        return false;
-    }
+// Lays a slot's head and region into a memory where they fit.
+fn put_slot(m: &mut [u8], slot: u8, head: &[u8], region: &[u8]) -> Result<(), BadRecord> {
+    let at = HEAD_BYTES + SLOT_BYTES * usize::from(slot);
+    put(m, at, head)?;
     put(m, at + REGION_AT, region)
 }
 
-// Reads a slot of a memory. Whether it was there.
-fn read_slot<R: Read>(input: &mut R, m: &mut [u8], slot: u8) -> bool {
+// Reads a slot of a memory.
+fn read_slot<R: Read>(input: &mut R, m: &mut [u8], slot: u8) -> Result<(), BadRecord> {
     let mut head = [0u8; 8];
-    if input.read_exact(&mut head).is_err() {
-        return false;
-    }
+    input.read_exact(&mut head)?;
     let mut size = [0u8; 2];
-    if input.read_exact(&mut size).is_err() {
-        return false;
-    }
-    let n = two(size[0], size[1]);
+    input.read_exact(&mut size)?;
     let mut region = [0u8; 512];
-    if !read_region(input, &mut region, n) {
-        return false;
-    }
+    read_region(input, &mut region, two_at(&size, 0) as usize)?;
     put_slot(m, slot, &head, &region)
 }
 
-// Reads the first n slots of a memory. Whether they were there.
-pub(crate) fn read_slots<R: Read>(input: &mut R, m: &mut [u8], n: u8) -> bool {
-    let mut k: u8 = 0;
-    while k < n {
-        if !read_slot(input, m, k) {
-            return false;
-        }
-        k += 1;
+// Reads the first n slots of a memory.
+pub(crate) fn read_slots<R: Read>(input: &mut R, m: &mut [u8], n: u8) -> Result<(), BadRecord> {
+    for k in 0..n {
+        read_slot(input, m, k)?;
     }
-    true
+    Ok(())
 }
 
 // Reads a slot behind its number.
-fn read_change<R: Read>(input: &mut R, m: &mut [u8]) -> bool {
+fn read_change<R: Read>(input: &mut R, m: &mut [u8]) -> Result<(), BadRecord> {
     let mut slot = [0u8; 1];
-    if input.read_exact(&mut slot).is_err() {
-        return false;
-    }
+    input.read_exact(&mut slot)?;
     read_slot(input, m, slot[0])
 }
 
-// Reads n slots, each behind its number. Whether they were there.
-pub(crate) fn read_changes<R: Read>(input: &mut R, m: &mut [u8], n: u8) -> bool {
-    let mut k: u8 = 0;
-    while k < n {
-        if !read_change(input, m) {
-            return false;
-        }
-        k += 1;
+// Reads n slots, each behind its number.
+pub(crate) fn read_changes<R: Read>(input: &mut R, m: &mut [u8], n: u8) -> Result<(), BadRecord> {
+    for _ in 0..n {
+        read_change(input, m)?;
     }
-    true
+    Ok(())
 }

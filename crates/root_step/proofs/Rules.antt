@@ -1,4 +1,5 @@
 -- From the answers of the calls below to the definitions of `Root`: what each path of the code makes of a call.
+use Rattle.std.specs.Prelude.{Ok, Err}
 use mathlib.Core.Path.{◌≡◌, refl, sym, ap, subst, ◌∙◌}
 use mathlib.Core.Bool.{Bool, true, false, not, ◌&&◌, cond}
 use mathlib.Core.List.{List, [], ◌∷◌, ◌++◌}
@@ -11,18 +12,11 @@ use Rattle.plain_note.specs.Note.{head_size}
 use Rattle.plain.specs.Outcome.{Outcome, Outcome.value, Outcome.refused, past, kept, mapped}
 use Rattle.plain.proofs.Logic.{cut, and_none}
 use Rattle.plain.proofs.Outcome.{one-applies, one-passed}
-use Rattle.answer.specs.Answers.{refusal_number, number, verdict}
+use Rattle.answer.specs.Answers.{refusal_number, Answer, outcome}
 use Rattle.answer.specs.declared.Refusal.{Refusal}
-use Rattle.answer.specs.declared.Number.{Number}
-use Rattle.answer.specs.declared.Number.TheVariants as Number·case
-use Rattle.answer.specs.declared.Verdict.{Verdict}
-use Rattle.answer.specs.declared.Verdict.TheVariants as Verdict·case
-use Rattle.answer.proofs.Opened.{verdict-never}
+use Rattle.answer.proofs.Opened.{never-refused}
 use Rattle.leaf_bytes.proofs.Opened.{never}
-use Rattle.text_info.specs.Info.{info}
 use Rattle.text_info.specs.declared.TextInfo.{TextInfo}
-use Rattle.text_info.specs.declared.Info.{Info}
-use Rattle.text_info.specs.declared.Info.TheVariants as Info·case
 use Rattle.pool.specs.declared.Kid.{Kid}
 use Rattle.octets.specs.Big.{two_at, four_at}
 use Rattle.pool.specs.Slot.{slot_start, len_of, next_of, no_kid}
@@ -56,11 +50,11 @@ use Rattle.root_step.specs.Root.{top_put, raised, grown, only, gave_way, shrunk,
 abbrev Step : Type 0
 Step = Act (Unit {0})
 
-module _ (o : Step) (r : Verdict) (after : List ℕ) where
-  pub did-as : (p : Step) → o ≡ p → Did verdict p r after → Did verdict o r after
-  did-as p e d = subst (λ (x : Step). Did verdict x r after) (sym e) d
+module _ (o : Step) (r : Answer (Unit {0})) (after : List ℕ) where
+  pub did-as : (p : Step) → o ≡ p → Did outcome p r after → Did outcome o r after
+  did-as p e d = subst (λ (x : Step). Did outcome x r after) (sym e) d
 
-  pub did-is : (a : Outcome (Unit {0})) (l : List ℕ) → o ≡ (a, l) → verdict r ≡ a → after ≡ l → Did verdict o r after
+  pub did-is : (a : Outcome (Unit {0})) (l : List ℕ) → o ≡ (a, l) → outcome r ≡ a → after ≡ l → Did outcome o r after
   did-is a l e f g = did-as (a, l) e (record { answered = f; memory = g })
 
 -- ── a node put on top ──
@@ -77,18 +71,18 @@ module _ (m : List ℕ) (k : Kid) (h : ℕ) where
   unfolding top_put
   top-it s = ap (λ (o : Outcome (List ℕ)). reading m o (λ l. (value tt, l))) (one-passed 2 (past head_size (length m)) put (le-ltb (length m) head_size s))
 
-  module _ (v : Verdict) (l : List ℕ) (w : Wrote (root_set m k) m v l) where
-    pub top-refused : (q : Refusal) → v ≡ Verdict·case.Refused q → Did verdict (top_put m k h) v l
+  module _ (v : Answer (Unit {0})) (l : List ℕ) (w : Wrote (root_set m k) m v l) where
+    pub top-refused : (q : Refusal) → v ≡ Err q → Did outcome (top_put m k h) v l
     top-refused q e =
         cut (length m) head_size
         (λ s. let o = root-short m s k in
         did-is (top_put m k h) v l (refused 2) m (top-short s) (w.answered ∙ ap (mapped (λ x. tt)) o) (w.memory ∙ ap (λ (x : Outcome (List ℕ)). kept m x) o))
-        (λ s. absurd (never (refusal_number q) tt (sym (ap verdict e) ∙ w.answered ∙ ap (mapped (λ x. tt)) (root-it m s k))))
+        (λ s. absurd (never (refusal_number q) tt (sym (ap outcome e) ∙ w.answered ∙ ap (mapped (λ x. tt)) (root-it m s k))))
 
-    pub top-done : v ≡ Verdict·case.Accepted → (u : Verdict) (after : List ℕ) → Wrote (height_set l h) l u after → Did verdict (top_put m k h) u after
+    pub top-done : v ≡ (Ok tt) → (u : Answer (Unit {0})) (after : List ℕ) → Wrote (height_set l h) l u after → Did outcome (top_put m k h) u after
     top-done e u after x =
         cut (length m) head_size
-        (λ s. absurd (never 2 tt (sym (w.answered ∙ ap (mapped (λ x. tt)) (root-short m s k)) ∙ ap verdict e)))
+        (λ s. absurd (never 2 tt (sym (w.answered ∙ ap (mapped (λ x. tt)) (root-short m s k)) ∙ ap outcome e)))
         (λ s. let z = root-there m s v l k w in
         let n : head_size ≤ length l = omega (arith, ap length z, (root-around m s k).size) in
         did-is (top_put m k h) u after (value tt) put (top-it s) (x.answered ∙ ap (mapped (λ x. tt)) (height-it l n h))
@@ -96,15 +90,15 @@ module _ (m : List ℕ) (k : Kid) (h : ℕ) where
 
 -- ── a slot taken ──
 
-module _ (m : List ℕ) (r : Number) (l : List ℕ) (took : Took (taken m) m r l) where
+module _ (m : List ℕ) (r : Answer ℕ) (l : List ℕ) (took : Took (taken m) m r l) where
   -- nothing was taken
-  none-taken : (q : Refusal) → r ≡ Number·case.Refused q → (taken m ≡ refused (refusal_number q)) × (l ≡ m)
+  none-taken : (q : Refusal) → r ≡ Err q → (taken m ≡ refused (refusal_number q)) × (l ≡ m)
   none-taken q e = go (taken m) refl took
     where
       go : (o : Outcome (ℕ × List ℕ)) → taken m ≡ o → Took o m r l → (taken m ≡ refused (refusal_number q)) × (l ≡ m)
-      go (value t) z w = absurd (never (refusal_number q) t.0 (sym (ap number e) ∙ w.answered))
+      go (value t) z w = absurd (never (refusal_number q) t.0 (sym (ap outcome e) ∙ w.answered))
       go (refused n) z w =
-          let y : ◌≡◌ {A = Outcome ℕ} (refused (refusal_number q)) (refused n) = sym (ap number e) ∙ w.answered in
+          let y : ◌≡◌ {A = Outcome ℕ} (refused (refusal_number q)) (refused n) = sym (ap outcome e) ∙ w.answered in
           let x : refusal_number q ≡ n = cc in
           (z ∙ ap (λ (k : ℕ). refused k) (sym x), w.memory)
 
@@ -115,17 +109,17 @@ module _ (m : List ℕ) (r : Number) (l : List ℕ) (took : Took (taken m) m r l
     pub is : taken m ≡ value (u, l)
 
   -- the first free slot was
-  pub some-taken : (u : ℕ) → r ≡ Number·case.Is u → Got u
+  pub some-taken : (u : ℕ) → r ≡ Ok u → Got u
   some-taken u e = go (no_free m (free_of m)) refl
     where
       as-taken : (u : ℕ) → u ≡ free_of m → l ≡ taken_memory m → taken m ≡ value (free_of m, taken_memory m) → taken m ≡ value (u, l)
       as-taken u x n i = i ∙ ap (λ (s : ℕ). value (s, taken_memory m)) (sym x) ∙ ap (λ (s : List ℕ). value (u, s)) (sym n)
 
       go : (b : Bool) → no_free m (free_of m) ≡ b → Got u
-      go true z = absurd (never 2 u (sym (took.answered ∙ ap (mapped (λ q. q.0)) (taken_not m z)) ∙ ap number e))
+      go true z = absurd (never 2 u (sym (took.answered ∙ ap (mapped (λ q. q.0)) (taken_not m z)) ∙ ap outcome e))
       go false z =
           let i : taken m ≡ value (free_of m, taken_memory m) = unfold taken in one-passed 2 (no_free m (free_of m)) (free_of m, taken_memory m) z in
-          let y : ◌≡◌ {A = Outcome ℕ} (value u) (value (free_of m)) = sym (ap number e) ∙ took.answered ∙ ap (mapped (λ q. q.0)) i in
+          let y : ◌≡◌ {A = Outcome ℕ} (value u) (value (free_of m)) = sym (ap outcome e) ∙ took.answered ∙ ap (mapped (λ q. q.0)) i in
           let x : u ≡ free_of m = cc in
           let n : l ≡ taken_memory m = took.memory ∙ ap (λ (o : Outcome (ℕ × List ℕ)). kept m (mapped (λ q. q.1) o)) i in
           let h = taken-some m (free_of m) (ap (mapped (λ q. q.0)) i) in
@@ -164,24 +158,24 @@ module _ (m : List ℕ) (c : NodeChildren) (h : ℕ) where
   abbrev family : List Kid
   family = kids c
 
-  module _ (few : c.len ≤ 16) (r : Info) (counted : info r ≡ list_counted c) where
-    pub raise-wide : (q : Refusal) → r ≡ Info·case.Refused q → Did verdict (raised m family h) (Verdict·case.Refused q) m
+  module _ (few : c.len ≤ 16) (r : Answer TextInfo) (counted : outcome r ≡ list_counted c) where
+    pub raise-wide : (q : Refusal) → r ≡ Err q → Did outcome (raised m family h) (Err q) m
     raise-wide q e =
         let w = wide c few r counted q e in
-        did-is (raised m family h) (Verdict·case.Refused q) m (refused 2) m (raised-wide m family h w.0) (ap (λ (n : ℕ). refused n) w.1) refl
+        did-is (raised m family h) (Err q) m (refused 2) m (raised-wide m family h w.0) (ap (λ (n : ℕ). refused n) w.1) refl
 
-    module _ (i : TextInfo) (e : r ≡ Info·case.Is i) (x : Number) (l : List ℕ) (took : Took (taken m) m x l) where
-      pub raise-full : (q : Refusal) → x ≡ Number·case.Refused q → Did verdict (raised m family h) (Verdict·case.Refused q) l
+    module _ (i : TextInfo) (e : r ≡ Ok i) (x : Answer ℕ) (l : List ℕ) (took : Took (taken m) m x l) where
+      pub raise-full : (q : Refusal) → x ≡ Err q → Did outcome (raised m family h) (Err q) l
       raise-full q f =
           let t = none-taken m x l took q f in
-          did-is (raised m family h) (Verdict·case.Refused q) l (refused (refusal_number q)) m (raised_by m family h (refused (refusal_number q)) (narrow c few r counted i e).0 t.0) refl t.1
+          did-is (raised m family h) (Err q) l (refused (refusal_number q)) m (raised_by m family h (refused (refusal_number q)) (narrow c few r counted i e).0 t.0) refl t.1
 
-      pub raise-never : {X : Type 0} (u : ℕ) → x ≡ Number·case.Is u → (v : Verdict) (a : List ℕ) → Wrote (stored l u c) l v a × Fitted v c.arr
-          → (q : Refusal) → v ≡ Verdict·case.Refused q → X
+      pub raise-never : {X : Type 0} (u : ℕ) → x ≡ Ok u → (v : Answer (Unit {0})) (a : List ℕ) → Wrote (stored l u c) l v a × Fitted v c.arr
+          → (q : Refusal) → v ≡ Err q → X
       raise-never u f v a s q z = let t = some-taken m x l took u f in stored-never l u c v a s (omega (arith, t.there, t.long)) few q z
 
-      pub raise-done : c ≡ list_of family → (u : ℕ) → x ≡ Number·case.Is u → (v : Verdict) (a : List ℕ) → Wrote (stored l u c) l v a × Fitted v c.arr
-          → (w : Verdict) (after : List ℕ) → Did verdict (top_put a (kid u i) (h + 1)) w after → Did verdict (raised m family h) w after
+      pub raise-done : c ≡ list_of family → (u : ℕ) → x ≡ Ok u → (v : Answer (Unit {0})) (a : List ℕ) → Wrote (stored l u c) l v a × Fitted v c.arr
+          → (w : Answer (Unit {0})) (after : List ℕ) → Did outcome (top_put a (kid u i) (h + 1)) w after → Did outcome (raised m family h) w after
       raise-done clean u f v a s w after d =
           let t = some-taken m x l took u f in
           let n = narrow c few r counted i e in
@@ -200,8 +194,8 @@ module _ (a b : Kid) (c : NodeChildren) (r : Listed) (e : c ≡ list_of []) (p :
   one : r.list ≡ list_of (a ∷ [])
   one = p.list ∙ ap (kept c) (pushed-done c a (omega (arith, none))) ∙ ap (λ (x : List Kid). list_of (x ++ (a ∷ []))) (is-kids c [] e)
 
-  pub first-never : {X : Type 0} (q : Refusal) → r.verdict ≡ Verdict·case.Refused q → X
-  first-never q f = verdict-never q r.verdict (p.answered ∙ ap (mapped (λ x. tt)) (pushed-done c a (omega (arith, none)))) f
+  pub first-never : {X : Type 0} (q : Refusal) → r.verdict ≡ Err q → X
+  first-never q f = never-refused q r.verdict tt (p.answered ∙ ap (mapped (λ x. tt)) (pushed-done c a (omega (arith, none)))) f
 
   pub pair-done : (s : Listed) → Listing (pushed r.list b) r.list s → Listing (value (list_of (a ∷ b ∷ []))) (list_of []) s
   pair-done s q =
@@ -229,8 +223,8 @@ module _ (a b : Kid) (c : NodeChildren) (r s : Listed) (e : c ≡ list_of []) (p
   two-are = ap kids two.is ∙ kids-of (kids r.list ++ (b ∷ [])) ∙ ap (λ (x : List Kid). x ++ (b ∷ [])) (is-kids r.list (a ∷ []) first)
 
 module _ (a b : Kid) (r : Listed) (w : Listing (value (list_of (a ∷ b ∷ []))) (list_of []) r) where
-  pub pair-never : {X : Type 0} (q : Refusal) → r.verdict ≡ Verdict·case.Refused q → X
-  pair-never q e = verdict-never q r.verdict w.answered e
+  pub pair-never : {X : Type 0} (q : Refusal) → r.verdict ≡ Err q → X
+  pair-never q e = never-refused q r.verdict tt w.answered e
 
   pub pair-are : kids r.list ≡ a ∷ b ∷ []
   pair-are = is-kids r.list (a ∷ b ∷ []) w.list
@@ -265,19 +259,19 @@ module _ (m : List ℕ) (s : ℕ) (child : Kid) (h : ℕ) where
   unfolding gave_way
   gave-by o e = ap (λ (x : Outcome (List ℕ)). reading m x (λ l. top_put l child (h - 1))) e
 
-  module _ (v : Verdict) (l : List ℕ) (w : Wrote (given m s) m v l) where
-    pub way-refused : (q : Refusal) → v ≡ Verdict·case.Refused q → Did verdict (gave_way m s child h) v l
+  module _ (v : Answer (Unit {0})) (l : List ℕ) (w : Wrote (given m s) m v l) where
+    pub way-refused : (q : Refusal) → v ≡ Err q → Did outcome (gave_way m s child h) v l
     way-refused q e = go (given m s) refl w
       where
-        go : (o : Outcome (List ℕ)) → given m s ≡ o → Wrote o m v l → Did verdict (gave_way m s child h) v l
-        go (value t) z x = absurd (never (refusal_number q) tt (sym (ap verdict e) ∙ x.answered))
+        go : (o : Outcome (List ℕ)) → given m s ≡ o → Wrote o m v l → Did outcome (gave_way m s child h) v l
+        go (value t) z x = absurd (never (refusal_number q) tt (sym (ap outcome e) ∙ x.answered))
         go (refused n) z x = did-is (gave_way m s child h) v l (refused n) m (gave-by (refused n) z) x.answered x.memory
 
-    pub way-done : v ≡ Verdict·case.Accepted → (u : Verdict) (after : List ℕ) → Did verdict (top_put l child (h - 1)) u after → Did verdict (gave_way m s child h) u after
+    pub way-done : v ≡ (Ok tt) → (u : Answer (Unit {0})) (after : List ℕ) → Did outcome (top_put l child (h - 1)) u after → Did outcome (gave_way m s child h) u after
     way-done e u after d = go (given m s) refl w
       where
-        go : (o : Outcome (List ℕ)) → given m s ≡ o → Wrote o m v l → Did verdict (gave_way m s child h) u after
-        go (refused n) z x = absurd (never n tt (sym x.answered ∙ ap verdict e))
+        go : (o : Outcome (List ℕ)) → given m s ≡ o → Wrote o m v l → Did outcome (gave_way m s child h) u after
+        go (refused n) z x = absurd (never n tt (sym x.answered ∙ ap outcome e))
         go (value t) z x =
             did-as (gave_way m s child h) u after (top_put l child (h - 1)) (gave-by (value t) z ∙ ap (λ (y : List ℕ). top_put y child (h - 1)) (sym x.memory)) d
 
@@ -360,22 +354,21 @@ module _ (m : List ℕ) (s : ℕ) where
 -- ── the call ──
 
 module _ (m : List ℕ) (x : Edit) (k : Kid) (root : k ≡ root_of m) where
-  pub root-same : (i : TextInfo) → x ≡ Edit·case.Same i → (h : ℕ) → h ≡ height_of m → rooted_by m (edit x) ≡ top_put m (kid k.slot i) h
-  unfolding rooted
-  root-same i e h f =
-      ap (λ (y : Edit). rooted_by m (edit y)) e ∙ ap (λ (r : Kid). top_put m (kid r.slot i) (height_of m)) (sym root) ∙ ap (top_put m (kid k.slot i)) (sym f)
+  abbrev made_by : Edit → Step
+  made_by y = rooted_by m (edit (Ok y))
 
-  pub root-small : (i : TextInfo) → x ≡ Edit·case.Small i → rooted_by m (edit x) ≡ shrunk m k.slot i
+  pub root-same : (i : TextInfo) → x ≡ Edit·case.Same i → (h : ℕ) → h ≡ height_of m → made_by x ≡ top_put m (kid k.slot i) h
   unfolding rooted
-  root-small i e = ap (λ (y : Edit). rooted_by m (edit y)) e ∙ ap (λ (r : Kid). shrunk m r.slot i) (sym root)
+  root-same i e h f = ap made_by e ∙ ap (λ (r : Kid). top_put m (kid r.slot i) (height_of m)) (sym root) ∙ ap (top_put m (kid k.slot i)) (sym f)
 
-  pub root-split : (i : TextInfo) (v : ℕ) (j : TextInfo) → x ≡ Edit·case.Split i v j → rooted_by m (edit x) ≡ grown m (kid k.slot i) v j
+  pub root-small : (i : TextInfo) → x ≡ Edit·case.Small i → made_by x ≡ shrunk m k.slot i
   unfolding rooted
-  root-split i v j e = ap (λ (y : Edit). rooted_by m (edit y)) e ∙ ap (λ (r : Kid). grown m (kid r.slot i) v j) (sym root)
+  root-small i e = ap made_by e ∙ ap (λ (r : Kid). shrunk m r.slot i) (sym root)
 
-  pub root-apart : x ≡ Edit·case.Apart → rooted_by m (edit x) ≡ (value tt, m)
+  pub root-split : (i : TextInfo) (v : ℕ) (j : TextInfo) → x ≡ Edit·case.Split i v j → made_by x ≡ grown m (kid k.slot i) v j
   unfolding rooted
-  root-apart e = ap (λ (y : Edit). rooted_by m (edit y)) e
+  root-split i v j e = ap made_by e ∙ ap (λ (r : Kid). grown m (kid r.slot i) v j) (sym root)
 
-  pub root-refused : (q : Refusal) → x ≡ Edit·case.Refused q → rooted_by m (edit x) ≡ (refused (refusal_number q), m)
-  root-refused q e = ap (λ (y : Edit). rooted_by m (edit y)) e
+  pub root-apart : x ≡ Edit·case.Apart → made_by x ≡ (value tt, m)
+  unfolding rooted
+  root-apart e = ap made_by e

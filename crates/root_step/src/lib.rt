@@ -2,59 +2,47 @@
 // that child.
 #![tactic(auto)]
 
-ghost use Rattle.std.specs.Prelude.{◌≡◌, [], ◌∷◌, ◌<◌};
+ghost use Rattle.std.specs.Prelude.{◌≡◌, [], ◌∷◌, ◌<◌, Ok};
 ghost use Rattle.plain.specs.Outcome.{Outcome.value};
-ghost use Rattle.answer.specs.Answers.{verdict};
+ghost use Rattle.answer.specs.Answers.{outcome};
 ghost use Rattle.node_children.specs.Kids.{kids, list_of, Listing};
 ghost use Rattle.edit_steps.specs.Made.{edit};
 ghost use Rattle.edit_steps.specs.Acts.{Did};
 ghost use Rattle.root_step.specs.Root.{top_put, raised, grown, gave_way, shrunk, rooted_by};
 
-use answer::{Number, Refusal, Verdict};
+use answer::{Answer, Refusal};
 use edit_steps::Edit;
 use free_slots::{LAST_SLOT, give_slot, take_slot};
 use node_children::{Listed, NodeChildren};
 use nodes::{list_info, load, store};
 use note_head::{height, root, set_height, set_root};
 use pool::Kid;
-use text_info::{Info, TextInfo};
+use text_info::TextInfo;
 
 // The height that one byte tells at most.
 const MAX_HEIGHT: u8 = 255;
 
 // A node becomes the root, at a height.
-fn put_top(m: &mut [u8], k: Kid, h: u8) -> Verdict
-    ensures { Did verdict (top_put m.old k h) result m.new }
+fn put_top(m: &mut [u8], k: Kid, h: u8) -> Answer<()>
+    ensures { Did outcome (top_put m.old k h) result m.new }
 {
-    let put = set_root(m, k);
-    let Verdict::Accepted = put else {
-        return put;
-    };
+    set_root(m, k)?;
     set_height(m, h)
 }
 
 // A list of these two children, in the first free slot, becomes the root.
-fn raise(m: &mut [u8], list: NodeChildren, h: u8) -> Verdict
+fn raise(m: &mut [u8], list: NodeChildren, h: u8) -> Answer<()>
     requires { (list.len < 16) × (list ≡ list_of (kids list)) × (h < 255) }
-    ensures { Did verdict (raised m.old (kids list) h) result m.new }
+    ensures { Did outcome (raised m.old (kids list) h) result m.new }
 {
-    match list_info(list) {
-        Info::Refused(r) => Verdict::Refused(r),
-        Info::Is(info) => match take_slot(m) {
-            Number::Refused(r) => Verdict::Refused(r),
-            Number::Is(new) => {
-                let put = store(m, new, list);
-                let Verdict::Accepted = put else {
-                    return put;
-                };
-                let top = Kid {
-                    slot: new as u32,
-                    info: info,
-                };
-                put_top(m, top, h + 1)
-            }
-        },
-    }
+    let info = list_info(list)?;
+    let new = take_slot(m)?;
+    store(m, new, list)?;
+    let top = Kid {
+        slot: new as u32,
+        info: info,
+    };
+    put_top(m, top, h + 1)
 }
 
 // A list of two children.
@@ -63,57 +51,44 @@ fn pair(left: Kid, right: Kid) -> Listed
 {
     let one = NodeChildren::new().push(left);
     let may = one.verdict;
-    let Verdict::Accepted = may else {
+    let Ok(()) = may else {
         return one;
     };
     one.list.push(right)
 }
 
 // The root became two nodes, the second in a slot that was free.
-fn grow(m: &mut [u8], left: Kid, right: usize, other: TextInfo) -> Verdict
-    ensures { Did verdict (grown m.old left right other) result m.new }
+fn grow(m: &mut [u8], left: Kid, right: usize, other: TextInfo) -> Answer<()>
+    ensures { Did outcome (grown m.old left right other) result m.new }
 {
     if LAST_SLOT < right {
-        return Verdict::Refused(Refusal::Memory);
+        return Err(Refusal::Memory);
     }
     let h = height(m);
     if h == MAX_HEIGHT {
-        return Verdict::Refused(Refusal::Memory);
+        return Err(Refusal::Memory);
     }
     let second = Kid {
         slot: right as u32,
         info: other,
     };
     let both = pair(left, second);
-    let may = both.verdict;
-    let Verdict::Accepted = may else {
-        return may;
-    };
+    both.verdict?;
     raise(m, both.list, h)
 }
 
-// A slot's number as an index.
-fn index_of(slot: u32) -> usize
-    ensures { result ≡ slot }
-{
-    slot as usize
-}
-
 // The only child of the root takes its place, and the root's slot is free.
-fn give_way(m: &mut [u8], slot: usize, child: Kid, h: u8) -> Verdict
+fn give_way(m: &mut [u8], slot: usize, child: Kid, h: u8) -> Answer<()>
     requires { 0 < h }
-    ensures { Did verdict (gave_way m.old slot child h) result m.new }
+    ensures { Did outcome (gave_way m.old slot child h) result m.new }
 {
-    let given = give_slot(m, slot);
-    let Verdict::Accepted = given else {
-        return given;
-    };
+    give_slot(m, slot)?;
     put_top(m, child, h - 1)
 }
 
 // The root is below a child's least size: a leaf may stay, and so may a list of two or three children.
-fn shrink(m: &mut [u8], slot: u32, info: TextInfo) -> Verdict
-    ensures { Did verdict (shrunk m.old slot info) result m.new }
+fn shrink(m: &mut [u8], slot: u32, info: TextInfo) -> Answer<()>
+    ensures { Did outcome (shrunk m.old slot info) result m.new }
 {
     let h = height(m);
     let same = Kid {
@@ -123,20 +98,20 @@ fn shrink(m: &mut [u8], slot: u32, info: TextInfo) -> Verdict
     if h == 0 {
         return put_top(m, same, h);
     }
-    let list = load(m, index_of(slot)).list;
+    let list = load(m, slot as usize).list;
     if list.len != 1 {
         return put_top(m, same, h);
     }
-    give_way(m, index_of(slot), list.arr[0], h)
+    give_way(m, slot as usize, list.arr[0], h)
 }
 
-// The root became what an edit made of it; where it made nothing the head stays as it is.
-pub fn put_root(m: &mut [u8], made: Edit) -> Verdict
-    ensures { Did verdict (rooted_by m.old (edit made)) result m.new }
+// The root became what an edit made of it; where it made nothing, or was refused, the head stays as it is.
+pub fn put_root(m: &mut [u8], made: Answer<Edit>) -> Answer<()>
+    ensures { Did outcome (rooted_by m.old (edit made)) result m.new }
 {
     let kid = root(m);
     let slot = kid.slot;
-    match made {
+    match made? {
         Edit::Same(info) => {
             let same = Kid {
                 slot: slot,
@@ -152,7 +127,6 @@ pub fn put_root(m: &mut [u8], made: Edit) -> Verdict
             };
             grow(m, left, right, other)
         }
-        Edit::Apart => Verdict::Accepted,
-        Edit::Refused(r) => Verdict::Refused(r),
+        Edit::Apart => Ok(()),
     }
 }

@@ -1,4 +1,5 @@
 -- What the calls of this crate come to, from what those below answered.
+use Rattle.std.specs.Prelude.{Ok, Err}
 use mathlib.Core.Path.{◌≡◌, refl, sym, ap, ◌∙◌}
 use mathlib.Core.Bool.{Bool, true, false}
 use mathlib.Core.List.{List, [], ◌∷◌}
@@ -19,10 +20,8 @@ use Rattle.plain.proofs.Edit.{replaced-length}
 use Rattle.plain.proofs.Text.{chars-encode}
 use Rattle.plain.proofs.Utf8.{valid-sound}
 use Rattle.plain_note.specs.Note.{Note, insert_rules, piece_most, read_from, previewed}
-use Rattle.answer.specs.Answers.{refusal_number, verdict}
+use Rattle.answer.specs.Answers.{refusal_number, Answer, outcome}
 use Rattle.answer.specs.declared.Refusal.{Refusal}
-use Rattle.answer.specs.declared.Verdict.{Verdict}
-use Rattle.answer.specs.declared.Verdict.TheVariants as Verdict·case
 use Rattle.note_head.specs.Head.{root_of, own_of}
 use Rattle.memory.specs.Formed.{well_formed, note_of, of_note}
 use Rattle.memory.proofs.Formed.{note-called, note-refused, note-accepted}
@@ -41,14 +40,14 @@ pub said-2 : {A : Type 0} (m : List ℕ) (f : Note → Outcome A) → well_forme
 said-2 m f e = sym (ap (λ o. Said o) (note-refused m f e))
 
 -- what a call hands out, by what its companion answered
-module _ (v : Verdict) (x : List ℕ) where
-  pub part_none : (o : Outcome (List ℕ)) (q : Refusal) → verdict v ≡ Said o → v ≡ Verdict·case.Refused q → ◌≡◌ {A = List ℕ} [] (part (mapped (λ t. x) o))
-  part_none (value a) q p e = absurd (let z : refused (refusal_number q) ≡ value tt = sym (ap verdict e) ∙ p in let w : ◌≡◌ {A = ℕ} 0 1 = cc in omega arith)
+module _ (v : Answer (Unit {0})) (x : List ℕ) where
+  pub part_none : (o : Outcome (List ℕ)) (q : Refusal) → outcome v ≡ Said o → v ≡ Err q → ◌≡◌ {A = List ℕ} [] (part (mapped (λ t. x) o))
+  part_none (value a) q p e = absurd (let z : refused (refusal_number q) ≡ value tt = sym (ap outcome e) ∙ p in let w : ◌≡◌ {A = ℕ} 0 1 = cc in omega arith)
   part_none (refused n) q p e = refl
 
-  pub part-some : (o : Outcome (List ℕ)) → verdict v ≡ Said o → v ≡ Verdict·case.Accepted → part (mapped (λ t. x) o) ≡ x
+  pub part-some : (o : Outcome (List ℕ)) → outcome v ≡ Said o → v ≡ (Ok tt) → part (mapped (λ t. x) o) ≡ x
   part-some (value a) p e = refl
-  part-some (refused n) p e = absurd (let z : value tt ≡ refused n = sym (ap verdict e) ∙ p in let w : ◌≡◌ {A = ℕ} 0 1 = cc in omega arith)
+  part-some (refused n) p e = absurd (let z : value tt ≡ refused n = sym (ap outcome e) ∙ p in let w : ◌≡◌ {A = ℕ} 0 1 = cc in omega arith)
 
 -- ── runs ──
 
@@ -64,12 +63,12 @@ module _ (m : List ℕ) (p : ℕ) where
     run-fine h =
         sym (ap (λ o. Said o) (note-called m (λ N. read_from N p) ok ∙ one-passed 3 (past p (length (note_of m).text)) (encode (drop p (note_of m).text)) (le-ltb _ p (omega (arith, chars-are m ok k stored)))))
 
-  module _ (v : Verdict) (said : verdict v ≡ Said (of_note m (λ N. read_from N p))) where
-    pub run_none : (q : Refusal) → v ≡ Verdict·case.Refused q → ◌≡◌ {A = List ℕ} [] (run_of m p)
+  module _ (v : Answer (Unit {0})) (said : outcome v ≡ Said (of_note m (λ N. read_from N p))) where
+    pub run_none : (q : Refusal) → v ≡ Err q → ◌≡◌ {A = List ℕ} [] (run_of m p)
     unfolding run_of
     run_none q e = part_none v (from_char (own_of m) p) (of_note m (λ N. read_from N p)) q said e
 
-    pub run-some : v ≡ Verdict·case.Accepted → (own x : List ℕ) → own ≡ own_of m → x ≡ from_char own p → x ≡ run_of m p
+    pub run-some : v ≡ (Ok tt) → (own x : List ℕ) → own ≡ own_of m → x ≡ from_char own p → x ≡ run_of m p
     unfolding run_of
     run-some e own x f g = g ∙ ap (λ (l : List ℕ). from_char l p) f ∙ sym (part-some v (from_char (own_of m) p) (of_note m (λ N. read_from N p)) said e)
 
@@ -90,24 +89,24 @@ module _ (m piece : List ℕ) (p q : ℕ) where
       let count : count_if is_start piece ≡ length (decode piece) = ap (count_if is_start) (sym (valid-sound piece e).1) ∙ chars-encode (decode piece) in
       omega (arith, count, replaced-length p p (decode piece) (note_of m).text (omega arith) h)
 
-  module _ (v : Verdict) (insert : verdict v ≡ of_note m (λ N. ruled (insert_rules piece_most N p piece) (tt {0}))) where
-    refused-so : well_formed m ≡ true → (r : Refusal) → v ≡ Verdict·case.Refused r → of_note m (λ N. previewed N p piece q) ≡ refused (refusal_number r)
+  module _ (v : Answer (Unit {0})) (insert : outcome v ≡ of_note m (λ N. ruled (insert_rules piece_most N p piece) (tt {0}))) where
+    refused-so : well_formed m ≡ true → (r : Refusal) → v ≡ Err r → of_note m (λ N. previewed N p piece q) ≡ refused (refusal_number r)
     unfolding previewed
     refused-so ok r e =
         note-called m (λ N. previewed N p piece q) ok
         ∙ more-refused (insert_rules piece_most (note_of m) p piece) last (tt {0}) joined (refusal_number r)
-        (sym (note-called m (λ N. ruled (insert_rules piece_most N p piece) (tt {0})) ok) ∙ sym insert ∙ ap verdict e)
+        (sym (note-called m (λ N. ruled (insert_rules piece_most N p piece) (tt {0})) ok) ∙ sym insert ∙ ap outcome e)
 
-    pub preview-refused : (r : Refusal) → v ≡ Verdict·case.Refused r → verdict v ≡ Said (of_note m (λ N. previewed N p piece q))
+    pub preview-refused : (r : Refusal) → v ≡ Err r → outcome v ≡ Said (of_note m (λ N. previewed N p piece q))
     preview-refused r e = go (well_formed m) refl
       where
-        go : (t : Bool) → well_formed m ≡ t → verdict v ≡ Said (of_note m (λ N. previewed N p piece q))
-        go true ok = ap verdict e ∙ sym (ap (λ o. Said o) (refused-so ok r e))
+        go : (t : Bool) → well_formed m ≡ t → outcome v ≡ Said (of_note m (λ N. previewed N p piece q))
+        go true ok = ap outcome e ∙ sym (ap (λ o. Said o) (refused-so ok r e))
         go false w = insert ∙ note-refused m (λ N. ruled (insert_rules piece_most N p piece) (tt {0})) w ∙ said-2 m (λ N. previewed N p piece q) w
 
-    module _ (fine : v ≡ Verdict·case.Accepted) (k n : ℕ) (stored : k ≡ (root_of m).info.chars) (count : n ≡ count_if is_start piece) where
+    module _ (fine : v ≡ (Ok tt)) (k n : ℕ) (stored : k ≡ (root_of m).info.chars) (count : n ≡ count_if is_start piece) where
       accepts : (well_formed m ≡ true) × (ruled (insert_rules piece_most (note_of m) p piece) (tt {0}) ≡ value (tt {0}))
-      accepts = note-accepted m (λ N. ruled (insert_rules piece_most N p piece) (tt {0})) (tt {0}) (sym insert ∙ ap verdict fine)
+      accepts = note-accepted m (λ N. ruled (insert_rules piece_most N p piece) (tt {0})) (tt {0}) (sym insert ∙ ap outcome fine)
 
       passed : of_note m (λ N. previewed N p piece q) ≡ ruled last joined
       unfolding previewed
@@ -124,12 +123,12 @@ module _ (m piece : List ℕ) (p q : ℕ) where
       pub preview-fine : (t : Bool) → t ≡ past q (k + n) → t ≡ false → value (tt {0}) ≡ Said (of_note m (λ N. previewed N p piece q))
       preview-fine t e h = sym (ap (λ o. Said o) (passed ∙ one-passed 3 (past q (length (put_in p (decode piece) (note_of m).text))) joined (ap (λ (x : ℕ). past q x) size ∙ sym e ∙ h)))
 
-  module _ (v : Verdict) (said : verdict v ≡ Said (of_note m (λ N. previewed N p piece q))) where
-    pub preview-none : (r : Refusal) → v ≡ Verdict·case.Refused r → ◌≡◌ {A = List ℕ} [] (preview_of m p piece q)
+  module _ (v : Answer (Unit {0})) (said : outcome v ≡ Said (of_note m (λ N. previewed N p piece q))) where
+    pub preview-none : (r : Refusal) → v ≡ Err r → ◌≡◌ {A = List ℕ} [] (preview_of m p piece q)
     unfolding preview_of
     preview-none r e = part_none v (joined_from (own_of m) p piece q) (of_note m (λ N. previewed N p piece q)) r said e
 
-    pub preview-some : v ≡ Verdict·case.Accepted → (own x : List ℕ) → own ≡ own_of m → x ≡ joined_from own p piece q → x ≡ preview_of m p piece q
+    pub preview-some : v ≡ (Ok tt) → (own x : List ℕ) → own ≡ own_of m → x ≡ joined_from own p piece q → x ≡ preview_of m p piece q
     unfolding preview_of
     preview-some e own x f g = g ∙ ap (λ (l : List ℕ). joined_from l p piece q) f ∙ sym (part-some v (joined_from (own_of m) p piece q) (of_note m (λ N. previewed N p piece q)) said e)
 

@@ -5,35 +5,35 @@
 ghost use Rattle.std.specs.Prelude.{◌≡◌, ◌⊎◌, ◌+◌};
 ghost use Rattle.plain.specs.Outcome.{mapped, past};
 ghost use Rattle.plain_note.specs.Note.{read_from, previewed};
-ghost use Rattle.answer.specs.Answers.{verdict};
+ghost use Rattle.answer.specs.Answers.{outcome};
 ghost use Rattle.note_head.specs.Part.{PartOf};
 ghost use Rattle.memory.specs.Formed.{of_note};
 ghost use Rattle.runs.specs.Runs.{run_of, front_of, joined_from, preview_of};
 
-use answer::{Refusal, Verdict};
+use answer::{Answer, Refusal};
 use edit_rules::insert_refusal;
 use leaf_parts::{behind, byte_in, from_char};
 use note_head::{chars_of, own_part};
 use str_indices::chars;
 
 // The companion of `run`: its refusal, or none.
-pub fn run_refusal(m: &[u8], p: usize) -> Verdict
-    ensures { verdict result ≡ mapped (λ t. tt) (of_note m.now (λ N. read_from N p)) }
+pub fn run_refusal(m: &[u8], p: usize) -> Answer<()>
+    ensures { outcome result ≡ mapped (λ t. tt) (of_note m.now (λ N. read_from N p)) }
 {
     if !memory::check(m) {
-        return Verdict::Refused(Refusal::Memory);
+        return Err(Refusal::Memory);
     }
     if chars_of(m) < p {
-        return Verdict::Refused(Refusal::Place);
+        return Err(Refusal::Place);
     }
-    Verdict::Accepted
+    Ok(())
 }
 
 // The note from a place to the end of the leaf that holds the char there; empty at its end.
 pub fn run(m: &[u8], p: usize) -> &[u8]
     ensures { (result.now ≡ run_of m.now p) × PartOf result m.entry }
 {
-    let Verdict::Accepted = run_refusal(m, p) else {
+    let Ok(()) = run_refusal(m, p) else {
         return &m[..0];
     };
     from_char(own_part(m), p)
@@ -51,17 +51,14 @@ fn past_both(first: usize, second: usize, q: usize) -> bool
 
 // The companion of `preview`: its refusal, or none. It refuses as the insertion would; only where that is accepted, 3 for a place past
 // the end of the joined text.
-pub fn preview_refusal(m: &[u8], piece: &[u8], p: usize, q: usize) -> Verdict
-    ensures { verdict result ≡ mapped (λ t. tt) (of_note m.now (λ N. previewed N p piece.now q)) }
+pub fn preview_refusal(m: &[u8], piece: &[u8], p: usize, q: usize) -> Answer<()>
+    ensures { outcome result ≡ mapped (λ t. tt) (of_note m.now (λ N. previewed N p piece.now q)) }
 {
-    let first = insert_refusal(m, piece, p);
-    let Verdict::Accepted = first else {
-        return first;
-    };
+    insert_refusal(m, piece, p)?;
     if past_both(chars_of(m), chars::count(piece), q) {
-        return Verdict::Refused(Refusal::Place);
+        return Err(Refusal::Place);
     }
-    Verdict::Accepted
+    Ok(())
 }
 
 // The first n chars of a text.
@@ -92,7 +89,7 @@ fn joined_from<'a>(m: &'a [u8], piece: &'a [u8], p: usize, q: usize) -> &'a [u8]
 pub fn preview<'a>(m: &'a [u8], piece: &'a [u8], p: usize, q: usize) -> &'a [u8]
     ensures { (result.now ≡ preview_of m.now p piece.now q) × (PartOf result m.entry ⊎ PartOf result piece.entry) }
 {
-    let Verdict::Accepted = preview_refusal(m, piece, p, q) else {
+    let Ok(()) = preview_refusal(m, piece, p, q) else {
         return &m[..0];
     };
     joined_from(own_part(m), piece, p, q)

@@ -6,37 +6,35 @@ ghost use Rattle.plain.specs.Chars.{encode};
 ghost use Rattle.plain.specs.Outcome.{part};
 ghost use Rattle.plain.specs.Count.{breaks, line_start, tail_break, trimmed};
 ghost use Rattle.plain.specs.Place.{byte_at};
-ghost use Rattle.answer.specs.Answers.{number, truth, verdict};
+ghost use Rattle.answer.specs.Answers.{outcome};
 ghost use Rattle.str_utils.specs.Helpers.{of_text};
 
-use answer::{Number, Refusal, Truth, Verdict};
+use answer::{Answer, Refusal};
 
 // Where the last line of any bytes begins.
 fn last_line(text: &[u8]) -> usize
     ensures { result ≡ line_start text.now (breaks text.now) }
 {
-    let mut idx = text.len();
-    while 0 < idx {
-        let b = text[idx - 1];
+    for i in (0..text.len()).rev() {
+        let b = text[i];
         if b == 0x0A {
-            return idx;
+            return i + 1;
         }
         if b == 0x0D {
-            return idx;
+            return i + 1;
         }
-        idx -= 1;
     }
     0
 }
 
 // The byte at which the last line begins.
-pub fn last_line_start_byte_idx(text: &[u8]) -> Number
-    ensures { number result ≡ of_text text.now (λ cs. byte_at cs (line_start cs (breaks cs))) }
+pub fn last_line_start_byte_idx(text: &[u8]) -> Answer<usize>
+    ensures { outcome result ≡ of_text text.now (λ cs. byte_at cs (line_start cs (breaks cs))) }
 {
     if utf8::valid(text) {
-        return Number::Is(last_line(text));
+        return Ok(last_line(text));
     }
-    Number::Refused(Refusal::Text)
+    Err(Refusal::Text)
 }
 
 // How many bytes the break has that ends any bytes; 0 where none does.
@@ -72,21 +70,21 @@ pub fn trim_line_break(text: &[u8]) -> &[u8]
 }
 
 // The companion of `trim_line_break`: its refusal, or none.
-pub fn trim_line_break_refusal(text: &[u8]) -> Verdict
-    ensures { verdict result ≡ of_text text.now (λ cs. tt) }
+pub fn trim_line_break_refusal(text: &[u8]) -> Answer<()>
+    ensures { outcome result ≡ of_text text.now (λ cs. tt) }
 {
-    if utf8::valid(text) {
-        return Verdict::Accepted;
+    if !utf8::valid(text) {
+        return Err(Refusal::Text);
     }
-    Verdict::Refused(Refusal::Text)
+    Ok(())
 }
 
 // Whether a line break ends the text.
-pub fn ends_with_line_break(text: &[u8]) -> Truth
-    ensures { truth result ≡ of_text text.now (λ cs. ltb 0 (tail_break cs)) }
+pub fn ends_with_line_break(text: &[u8]) -> Answer<bool>
+    ensures { outcome result ≡ of_text text.now (λ cs. ltb 0 (tail_break cs)) }
 {
     if utf8::valid(text) {
-        return Truth::Is(0 < tail_break(text));
+        return Ok(0 < tail_break(text));
     }
-    Truth::Refused(Refusal::Text)
+    Err(Refusal::Text)
 }

@@ -1,4 +1,6 @@
 -- From bytes to the text: what a helper answers of well-formed bytes, and of others; the last line, and the break that ends bytes.
+use Rattle.answer.specs.Answers.{Answer, outcome}
+use Rattle.std.specs.Prelude.{Ok, Err}
 use mathlib.Core.Path.{◌≡◌, refl, sym, ap, ◌∙◌, subst}
 use mathlib.Core.Bool.{Bool, true, false, not, ◌&&◌, cond}
 use mathlib.Core.List.{List, [], ◌∷◌}
@@ -20,9 +22,6 @@ use Rattle.plain.proofs.Encode.{encode-take}
 use Rattle.plain.proofs.Count.{ends-lf, ends-cr, ends-no, lf-at, lf-end, line-drop, line-zero, line-behind, start-le, break-turn, break-end, tail-two}
 use Rattle.plain.proofs.Text.{chars-encode, pairs-encode, line-encode, tail-no-lf}
 use Rattle.plain.proofs.Place.{byte-of-char, byte-of-unit, floor-encode, place-of-byte, place-le, start-encode}
-use Rattle.answer.specs.Answers.{number}
-use Rattle.answer.specs.declared.Number.{Number}
-use Rattle.answer.specs.declared.Number.TheVariants.{Is, Refused}
 use Rattle.answer.specs.declared.Refusal.{Refusal}
 use Rattle.answer.proofs.Opened.{opened, passed_on}
 use Rattle.str_utils.specs.Helpers.{of_text}
@@ -62,13 +61,13 @@ pub part-is : (s : List ℕ) (f F : List ℕ → List ℕ) → ((cs : List ℕ) 
 part-is s f F law l v e = ap part (text-is s f F law l v e)
 
 -- the answer of `checked`, opened
-module _ (s : List ℕ) (f : List ℕ → ℕ) (r : Number) (promise : number r ≡ of_text s f) where
-  pub text-valid : (n : ℕ) → r ≡ Is n → valid_utf8 s ≡ true
+module _ (s : List ℕ) (f : List ℕ → ℕ) (r : Answer ℕ) (promise : outcome r ≡ of_text s f) where
+  pub text-valid : (n : ℕ) → r ≡ Ok n → valid_utf8 s ≡ true
   unfolding of_text
   text-valid n e =
       not-false (valid_utf8 s) (one-accepted 5 (not (valid_utf8 s)) (f (decode s)) (f (decode s)) (opened r ((5, not (valid_utf8 s)) ∷ []) (f (decode s)) promise n (f (decode s)) e).1)
 
-  pub text-passed : (g : List ℕ → ℕ) (q : Refusal) → r ≡ Refused q → number r ≡ of_text s g
+  pub text-passed : (g : List ℕ → ℕ) (q : Refusal) → r ≡ Err q → outcome r ≡ of_text s g
   unfolding of_text
   text-passed g q e = passed_on r ((5, not (valid_utf8 s)) ∷ []) (f (decode s)) promise q (g (decode s)) e
 

@@ -8,7 +8,7 @@ ghost use Rattle.plain.specs.Outcome.{kept};
 ghost use Rattle.text_calls.specs.Asked.{asked_by};
 ghost use Rattle.told.specs.Told.{code};
 
-use answer::Number;
+use told::tell;
 
 // The call with a number, as `text_calls` has them. It returns 0 and writes the value through `out`, a truth as 1 or 0 and a part as
 // its length; or it returns document 01's number of the refusal and writes nothing.
@@ -16,13 +16,7 @@ use answer::Number;
 pub extern "C" fn wol_ask(call: u8, index: usize, bias_left: bool, text: &[u8], out: &mut u64) -> u8
     ensures { (result ≡ code (asked_by call index bias_left text.now)) × (out.new ≡ kept out.old (asked_by call index bias_left text.now)) }
 {
-    match text_calls::ask_by(call, index, bias_left, text) {
-        Number::Is(n) => {
-            *out = n as u64;
-            0
-        }
-        Number::Refused(r) => answer::number_of(r),
-    }
+    tell(text_calls::ask_by(call, index, bias_left, text), out)
 }
 
 // The three counts over any bytes, with no test of what they are.

@@ -1,12 +1,11 @@
 -- An answer by its call, a truth as a number, a seam by its cut, and a part by its length.
 use mathlib.Core.Path.{◌≡◌, refl, sym, ap, ◌∙◌}
-use mathlib.Core.Bool.{Bool, true, false}
+use mathlib.Core.Bool.{Bool, true, false, cond, ◌||◌}
 use mathlib.Core.List.{List, ◌++◌}
-use Prim.Native.Nat.{ℕ, ◌-◌, ◌≤◌, ◌<◌}
+use Prim.Native.Nat.{ℕ, ◌-◌, ◌<◌}
 use native.Mathlib.Omega.{arith}
+use lib.Dec.{eqb, ltb}
 use lib.ListN.{length, get_or, take, drop, length-drop}
-use lib.Seq.{take_all}
-use borrow.Author.Tests.{lt-ltb, le-ltb, eq-eqb, ne_eqb}
 use mir.Val.{bool_byte}
 use Rattle.plain.specs.Chars.{encode}
 use Rattle.plain.specs.Count.{bit, trimmed}
@@ -16,7 +15,12 @@ use Rattle.crlf.specs.Break.{at_seam, is_break}
 use Rattle.crlf.proofs.Laws.{seam-right}
 use Rattle.str_utils.specs.Helpers.{of_text}
 use Rattle.str_utils.proofs.Laws.{text-too}
-use Rattle.text_calls.specs.Asked.{counted, seam_at, asked, calls, asked_by}
+use Rattle.answer.specs.Answers.{refusal_number, Answer, outcome}
+use Rattle.answer.specs.declared.Refusal.{Refusal}
+use Rattle.std.specs.Prelude.{Ok, Err, Option, Some, None, MatchOption}
+use Rattle.std.specs.Option.{ok_or}
+use Rattle.std.specs.List.{IsSplitAt}
+use Rattle.text_calls.specs.Asked.{counted, seam_at, asked, calls, named, asked_by}
 use Rattle.text_calls.specs.declared.Call.{Call}
 use Rattle.text_calls.specs.declared.Call.TheVariants.{IsBreak}
 
@@ -31,6 +35,19 @@ truth-is t u e = is t ∙ ap bit e
     is true = refl
     is false = refl
 
+-- ── what a look-up found, or the refusal in its place ──
+
+module _ {X : Type 0} (P : X → Type 0) (Q : Type 0) (q : Refusal) where
+  pub found : (o : Option X) {r : Answer X} (x : X) → MatchOption o Q P → r ≡ ok_or o q → r ≡ Ok x → P x
+  found (Some y) x h e f = let z : y ≡ x = cc in rw z at h
+  found None x h e f = absurd (let z : ◌≡◌ {A = ℕ} 0 1 = cc in omega arith)
+
+  pub missed : (o : Option X) {r : Answer X} (p : Refusal) → MatchOption o Q P → r ≡ ok_or o q → r ≡ Err p → (p ≡ q) × Q
+  missed (Some y) p h e f = absurd (let z : ◌≡◌ {A = ℕ} 0 1 = cc in omega arith)
+  missed None p h e f = (let z : p ≡ q = cc in z, h)
+
+-- ── a cut ──
+
 -- past the end the right side is empty
 pub seam-past : (i : ℕ) (s : List ℕ) → length s < i → refused 12 ≡ seam_at i s
 unfolding seam_at
@@ -38,13 +55,10 @@ seam-past i s h =
     let none : length (drop i s) ≡ 0 = omega (arith, length-drop i s) in
     ap counted (seam-right (take i s) (drop i s) (is_break (take i s ++ drop i s) (length (take i s))) none)
 
--- up to the end it reaches to the end
-pub seam-cut : (i : ℕ) (s : List ℕ) (o : Outcome Bool) → i ≤ length s
-    → (let r = take (length s - i) (drop i s) in o ≡ at_seam (take i s) r (is_break (take i s ++ r) (length (take i s)))) → counted o ≡ seam_at i s
+-- up to the end the two sides are those of the cut
+pub seam-cut : (i : ℕ) (s l r : List ℕ) (o : Outcome Bool) → IsSplitAt s i l r → o ≡ at_seam l r (is_break (l ++ r) (length l)) → counted o ≡ seam_at i s
 unfolding seam_at
-seam-cut i s o h e =
-    let all = take_all (length s - i) (drop i s) (omega (arith, length-drop i s)) in
-    ap counted (e ∙ ap (λ (r : List ℕ). at_seam (take i s) r (is_break (take i s ++ r) (length (take i s)))) all)
+seam-cut i s l r o h e = ap counted (rw (h.1, h.2) at e)
 
 pub part_length : (s l : List ℕ) → of_text s (λ cs. tt {0}) ≡ value tt → l ≡ part (of_text s (λ cs. encode (trimmed cs)))
     → value (length l) ≡ of_text s (λ cs. bytes (trimmed cs))
@@ -55,14 +69,21 @@ part_length s l e f =
 
 -- ── by number ──
 
-pub no-call-0 : (k i : ℕ) (left : Bool) (s : List ℕ) → k ≡ 0 → refused 10 ≡ asked_by k i left s
-unfolding asked_by
-no-call-0 k i left s e = sym (rw (eq-eqb k 0 e))
+module _ (k i : ℕ) (left : Bool) (s : List ℕ) {r : Answer Call} (n : outcome r ≡ named k) where
+  -- a number that names no call
+  pub no-call : (q : Refusal) → r ≡ Err q → refused (refusal_number q) ≡ asked_by k i left s
+  unfolding named asked_by
+  no-call q e = go (eqb k 0 || ltb 21 k) (get_or calls (k - 1) IsBreak) (sym (ap outcome e) ∙ n)
+    where
+      go : (t : Bool) (x : Call) → refused (refusal_number q) ≡ cond t (refused 10) (value x) → refused (refusal_number q) ≡ cond t (refused 10) (asked x i left s)
+      go true x h = let z : refusal_number q ≡ 10 = cc in ap (λ (j : ℕ). refused j) z
+      go false x h = absurd (let z : ◌≡◌ {A = ℕ} 0 1 = cc in omega arith)
 
-pub no_call : (k i : ℕ) (left : Bool) (s : List ℕ) → (k ≡ 0 → ⊥) → 21 < k → refused 10 ≡ asked_by k i left s
-unfolding asked_by
-no_call k i left s z h = sym (rw (ne_eqb k 0 z, lt-ltb 21 k h))
-
-pub by_number : (k i : ℕ) (left : Bool) (s : List ℕ) (o : Outcome ℕ) → (k ≡ 0 → ⊥) → k ≤ 21 → o ≡ asked (get_or calls (k - 1) IsBreak) i left s → o ≡ asked_by k i left s
-unfolding asked_by
-by_number k i left s o z h e = e ∙ sym (rw (ne_eqb k 0 z, le-ltb 21 k h))
+  -- the answer of the call that the number names
+  pub by_number : (c : Call) (o : Outcome ℕ) → r ≡ Ok c → o ≡ asked c i left s → o ≡ asked_by k i left s
+  unfolding named asked_by
+  by_number c o e a = a ∙ go (eqb k 0 || ltb 21 k) (get_or calls (k - 1) IsBreak) (sym (ap outcome e) ∙ n)
+    where
+      go : (t : Bool) (x : Call) → value c ≡ cond t (refused 10) (value x) → asked c i left s ≡ cond t (refused 10) (asked x i left s)
+      go true x h = absurd (let z : ◌≡◌ {A = ℕ} 0 1 = cc in omega arith)
+      go false x h = let z : c ≡ x = cc in ap (λ (d : Call). asked d i left s) z

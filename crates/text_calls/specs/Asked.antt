@@ -67,7 +67,12 @@ calls =
     EndsWithLineBreak ∷
     Valid ∷ []
 
--- by its number; one that names no call is a bad field
+-- the call with a number; one that names no call is a bad field
+unfoldable pub named : ℕ → Outcome Call
+unfolding calls
+named k = cond (eqb k 0 || ltb 21 k) (refused 10) (value (get_or calls (k - 1) IsBreak))
+
+-- the answer of the call with a number
 unfoldable pub asked_by : ℕ → ℕ → Bool → List ℕ → Outcome ℕ
 unfolding calls
 asked_by k i left s = cond (eqb k 0 || ltb 21 k) (refused 10) (asked (get_or calls (k - 1) IsBreak) i left s)

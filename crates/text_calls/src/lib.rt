@@ -5,11 +5,11 @@
 ghost use Rattle.std.specs.Prelude.{◌≡◌};
 ghost use Rattle.plain.specs.Place.{bytes};
 ghost use Rattle.plain.specs.Count.{trimmed};
-ghost use Rattle.answer.specs.Answers.{number, truth};
+ghost use Rattle.answer.specs.Answers.{outcome};
 ghost use Rattle.str_utils.specs.Helpers.{of_text};
-ghost use Rattle.text_calls.specs.Asked.{counted, seam_at, asked, asked_by};
+ghost use Rattle.text_calls.specs.Asked.{counted, seam_at, asked, named, asked_by};
 
-use answer::{Number, Refusal, Truth, Verdict};
+use answer::{Answer, Refusal};
 
 #[derive(Clone, Copy)]
 pub enum Call {
@@ -36,63 +36,66 @@ pub enum Call {
     Valid,
 }
 
-// The calls in the order of their numbers, from 1.
-const CALLS: [Call; 21] = [
-    Call::IsBreak,
-    Call::SeamIsBreak,
-    Call::PrevBreak,
-    Call::NextBreak,
-    Call::NearestInternalBreak,
-    Call::FindGoodSplit,
-    Call::CountChars,
-    Call::ByteToCharIdx,
-    Call::CharToByteIdx,
-    Call::CountUtf16Surrogates,
-    Call::CountLineBreaks,
-    Call::ByteToLineIdx,
-    Call::LineToByteIdx,
-    Call::CharToLineIdx,
-    Call::LineToCharIdx,
-    Call::ByteToUtf16SurrogateIdx,
-    Call::Utf16CodeUnitToCharIdx,
-    Call::LastLineStartByteIdx,
-    Call::TrimLineBreak,
-    Call::EndsWithLineBreak,
-    Call::Valid,
-];
+// The call with a number, from 1; a number that names none is refused by 10.
+impl TryFrom<u8> for Call {
+    type Error = Refusal;
+
+    ghost try_from_gives = { λ k r. outcome r ≡ named k };
+
+    #[tactic(auto, unfolding(crate::specs::Asked::named, crate::specs::Asked::calls))]
+    fn try_from(number: u8) -> Answer<Call> {
+        match number {
+            1 => Ok(Call::IsBreak),
+            2 => Ok(Call::SeamIsBreak),
+            3 => Ok(Call::PrevBreak),
+            4 => Ok(Call::NextBreak),
+            5 => Ok(Call::NearestInternalBreak),
+            6 => Ok(Call::FindGoodSplit),
+            7 => Ok(Call::CountChars),
+            8 => Ok(Call::ByteToCharIdx),
+            9 => Ok(Call::CharToByteIdx),
+            10 => Ok(Call::CountUtf16Surrogates),
+            11 => Ok(Call::CountLineBreaks),
+            12 => Ok(Call::ByteToLineIdx),
+            13 => Ok(Call::LineToByteIdx),
+            14 => Ok(Call::CharToLineIdx),
+            15 => Ok(Call::LineToCharIdx),
+            16 => Ok(Call::ByteToUtf16SurrogateIdx),
+            17 => Ok(Call::Utf16CodeUnitToCharIdx),
+            18 => Ok(Call::LastLineStartByteIdx),
+            19 => Ok(Call::TrimLineBreak),
+            20 => Ok(Call::EndsWithLineBreak),
+            21 => Ok(Call::Valid),
+            _ => Err(Refusal::Field),
+        }
+    }
+}
 
 // A truth as 1 or 0.
-fn truth_as_number(a: Truth) -> Number
-    ensures { number result ≡ counted (truth a) }
+fn truth_as_number(a: Answer<bool>) -> Answer<usize>
+    ensures { outcome result ≡ counted (outcome a) }
 {
-    match a {
-        Truth::Is(t) => Number::Is(t as usize),
-        Truth::Refused(r) => Number::Refused(r),
-    }
+    a.map(usize::from)
 }
 
 // `seam_is_break` of a text cut at an index. Past the end the right side is empty.
-fn seam_at(index: usize, text: &[u8]) -> Number
-    ensures { number result ≡ seam_at index text.now }
+fn seam_at(index: usize, text: &[u8]) -> Answer<usize>
+    ensures { outcome result ≡ seam_at index text.now }
 {
-    if text.len() < index {
-        return Number::Refused(Refusal::Side);
-    }
-    truth_as_number(crlf::seam_is_break(&text[..index], &text[index..]))
+    let (left, right) = text.split_at_checked(index).ok_or(Refusal::Side)?;
+    truth_as_number(crlf::seam_is_break(left, right))
 }
 
 // How many bytes `trim_line_break` hands out. They are the text's first ones.
-fn trimmed_len(text: &[u8]) -> Number
-    ensures { number result ≡ of_text text.now (λ cs. bytes (trimmed cs)) }
+fn trimmed_len(text: &[u8]) -> Answer<usize>
+    ensures { outcome result ≡ of_text text.now (λ cs. bytes (trimmed cs)) }
 {
-    match str_ends::trim_line_break_refusal(text) {
-        Verdict::Accepted => Number::Is(str_ends::trim_line_break(text).len()),
-        Verdict::Refused(r) => Number::Refused(r),
-    }
+    str_ends::trim_line_break_refusal(text)?;
+    Ok(str_ends::trim_line_break(text).len())
 }
 
-fn ask(call: Call, index: usize, bias_left: bool, text: &[u8]) -> Number
-    ensures { number result ≡ asked call index bias_left text.now }
+fn ask(call: Call, index: usize, bias_left: bool, text: &[u8]) -> Answer<usize>
+    ensures { outcome result ≡ asked call index bias_left text.now }
 {
     match call {
         Call::IsBreak => truth_as_number(crlf::is_break(index, text)),
@@ -115,21 +118,13 @@ fn ask(call: Call, index: usize, bias_left: bool, text: &[u8]) -> Number
         Call::LastLineStartByteIdx => str_ends::last_line_start_byte_idx(text),
         Call::TrimLineBreak => trimmed_len(text),
         Call::EndsWithLineBreak => truth_as_number(str_ends::ends_with_line_break(text)),
-        Call::Valid => Number::Is(utf8::valid(text) as usize),
+        Call::Valid => Ok(usize::from(utf8::valid(text))),
     }
 }
 
 // The answer of the call with a number; a number that names none is refused by 10.
-pub fn ask_by(call: u8, index: usize, bias_left: bool, text: &[u8]) -> Number
-    ensures { number result ≡ asked_by call index bias_left text.now }
+pub fn ask_by(call: u8, index: usize, bias_left: bool, text: &[u8]) -> Answer<usize>
+    ensures { outcome result ≡ asked_by call index bias_left text.now }
 {
-    if call == 0 {
-        return Number::Refused(Refusal::Field);
-    }
-    if 21 < call {
-        return Number::Refused(Refusal::Field);
-    }
-    let calls = CALLS;
-    let k = (call - 1) as usize;
-    ask(calls[k], index, bias_left, text)
+    ask(Call::try_from(call)?, index, bias_left, text)
 }

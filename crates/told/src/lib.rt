@@ -2,30 +2,27 @@
 #![tactic(auto)]
 
 ghost use Rattle.std.specs.Prelude.{◌≡◌};
-ghost use Rattle.answer.specs.Answers.{number, verdict};
+ghost use Rattle.answer.specs.Answers.{outcome};
 ghost use Rattle.told.specs.Told.{code, Told};
 
-use answer::{Number, Verdict};
+use answer::Answer;
 
 // What C is told of a verdict: 0, or the number of the refusal.
-pub fn code_of(v: Verdict) -> u8
-    ensures { result ≡ code (verdict v) }
+pub fn code_of(v: Answer<()>) -> u8
+    ensures { result ≡ code (outcome v) }
 {
-    match v {
-        Verdict::Accepted => 0,
-        Verdict::Refused(q) => answer::number_of(q),
-    }
+    v.err().map_or(0, u8::from)
 }
 
 // The same of a number, which is written through `out`; a refusal writes nothing.
-pub fn tell(a: Number, out: &mut u64) -> u8
-    ensures { Told (number a) out.old result out.new }
+pub fn tell(a: Answer<usize>, out: &mut u64) -> u8
+    ensures { Told (outcome a) out.old result out.new }
 {
     match a {
-        Number::Is(n) => {
+        Ok(n) => {
             *out = n as u64;
             0
         }
-        Number::Refused(q) => answer::number_of(q),
+        Err(q) => u8::from(q),
     }
 }

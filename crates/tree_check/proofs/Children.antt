@@ -1,4 +1,5 @@
 -- What a step at one child shows: the children so far and one more, and why the whole list falls with one child.
+use Rattle.std.specs.Prelude.{Option}
 use mathlib.Core.Path.{◌≡◌, sym, ap, subst, ◌∙◌}
 use mathlib.Core.Bool.{Bool, true, false, not, cond, ◌&&◌, true≢false}
 use mathlib.Core.List.{List, [], ◌∷◌, ◌++◌, map}
@@ -142,8 +143,8 @@ module _ (m seen : List ℕ) (h : ℕ) where
 -- ── the entries of a slot, in turn ──
 
 -- the answer for a child, whose least size is that of its height
-pub child-met : (m seen later : List ℕ) (least h s : ℕ) (r q : Met) → least ≡ least_at h → r ≡ q → NodeMet m seen later least h s r → NodeMet m seen later (least_at h) h s q
-child-met m seen later least h s r q e f c = subst (λ (n : ℕ). NodeMet m seen later n h s q) e (subst (λ (x : Met). NodeMet m seen later least h s x) f c)
+pub child-met : (m seen later : List ℕ) (least h s : ℕ) (r q : Option Met) → least ≡ least_at h → r ≡ q → NodeMet m seen later least h s r → NodeMet m seen later (least_at h) h s q
+child-met m seen later least h s r q e f c = subst (λ (n : ℕ). NodeMet m seen later n h s q) e (subst (λ (x : Option Met). NodeMet m seen later least h s x) f c)
 
 module _ (m seen : List ℕ) (h s i : ℕ) (few : i < 16) (k : Kid) (is : k ≡ get_or (entries (region_of m s)) i no_kid) where
   so-many : length (kids_to m s i) ≡ i

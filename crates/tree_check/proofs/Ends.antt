@@ -1,4 +1,5 @@
 -- What the functions over texts show: how a text begins and ends, and that a text is one.
+use Rattle.std.specs.Prelude.{Option}
 use mathlib.Core.Path.{◌≡◌, refl, sym, ap, subst, ◌∙◌}
 use mathlib.Core.Bool.{Bool, true, false, not, ◌&&◌, ◌||◌, and-true}
 use mathlib.Core.List.{List, [], ◌∷◌}
@@ -77,7 +78,7 @@ text-is t r lf cr v b c u l f e =
     }
 
 -- the same text by another name
-pub text_same : (s t : List ℕ) → s ≡ t → (r : Met) → TextMet s r → TextMet t r
+pub text_same : (s t : List ℕ) → s ≡ t → (r : Option Met) → TextMet s r → TextMet t r
 text_same s t e r = subst (λ (x : List ℕ). TextMet x r) e
 
 -- ── whether a child may follow, test by test ──

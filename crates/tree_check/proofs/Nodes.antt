@@ -1,4 +1,5 @@
 -- What a step at one node shows: the slot's shape, a leaf, and a list with its children.
+use Rattle.std.specs.Prelude.{Option, Some, None}
 use mathlib.Core.Path.{◌≡◌, sym, ap, subst, ◌∙◌}
 use mathlib.Core.Bool.{true, false, true≢false}
 use mathlib.Core.List.{List, map}
@@ -14,7 +15,6 @@ use Rattle.tree.specs.Tree.{hit, uses, bytes_below, join_over, every, seamless, 
 use Rattle.tree.specs.Kids.{below, fine, uses_of}
 use Rattle.tree.proofs.Sound.{LeafSound, ListSound, leaf-sound, sound-leaf, list-sound, sound-list, leaf-bytes, leaf-uses, list-bytes, list-uses}
 use Rattle.tree_check.specs.declared.Met.{Met}
-use Rattle.tree_check.specs.declared.Met.TheVariants.{Fine, Bad}
 use Rattle.tree_check.specs.declared.Shape.{Shape}
 use Rattle.tree_check.specs.Met.{Told, TextMet, LeafShape, ListShape, ShapeIs, NodeMet, KidsMet, kids_to}
 use Rattle.tree_check.proofs.Marks.{mark-le, marked-now}
@@ -47,8 +47,8 @@ module _ (m : List ℕ) (least h s : ℕ) where
 -- ── a leaf ──
 
 module _ (m seen : List ℕ) (least h s n : ℕ) (l : s < length seen) (z : get_or seen s 0 ≡ 0) where
-  pub leaf-met : LeafShape m least h s n → (r : Met) → TextMet (leaf_of (region_of m s) n) r → NodeMet m seen (set seen s 1) least h s r
-  leaf-met w (Fine sum lf cr) f =
+  pub leaf-met : LeafShape m least h s n → (r : Option Met) → TextMet (leaf_of (region_of m s) n) r → NodeMet m seen (set seen s 1) least h s r
+  leaf-met w (Some q) f =
       let t : leaf_of (region_of m s) n ≡ text_of m s = ap (leaf_of (region_of m s)) (sym w.len) in
       let b : leaf_of (region_of m s) n ≡ bytes_below m h s = t ∙ sym (leaf-bytes m s) ∙ ap (λ (k : ℕ). bytes_below m k s) (sym w.height) in
       let u : (x : ℕ) → uses m h s x ≡ hit s x = λ x. ap (λ (k : ℕ). uses m k s x) w.height ∙ leaf-uses m s x in
@@ -56,17 +56,17 @@ module _ (m seen : List ℕ) (least h s n : ℕ) (l : s < length seen) (z : get_
         good = ap (λ (k : ℕ). sound m least k s) w.height
             ∙ sound-leaf m least s (record { leaf = w.leaf; size = omega (arith, w.size, w.len); valid = ap valid_utf8 (sym t) ∙ f.valid });
         fresh = record { at = λ x. omega (arith, u x, (marked-now seen s l z).at x, mark-le (set seen s 1) x) };
-        told = subst (λ (x : List ℕ). Told x sum lf cr) b f.told;
+        told = subst (λ (x : List ℕ). Told x q.sum q.lf q.cr) b f.told;
         marked = record { at = λ x. omega (arith, u x, (marked-now seen s l z).at x) };
       }
-  leaf-met w Bad f = λ g _.
+  leaf-met w None f = λ g _.
       let t : leaf_of (region_of m s) n ≡ text_of m s = ap (leaf_of (region_of m s)) (sym w.len) in
       f (ap valid_utf8 t ∙ (sound-leaf-only m least h s w.height g).valid)
 
   -- ── a list ──
 
-  pub list-met : (later : List ℕ) → ListShape m least h s n → (r : Met) → KidsMet m (set seen s 1) later (h - 1) (kids_to m s n) r → NodeMet m seen later least h s r
-  list-met later w (Fine sum lf cr) f =
+  pub list-met : (later : List ℕ) → ListShape m least h s n → (r : Option Met) → KidsMet m (set seen s 1) later (h - 1) (kids_to m s n) r → NodeMet m seen later least h s r
+  list-met later w (Some q) f =
       let k : kids_to m s n ≡ children_of m s = ap (λ (j : ℕ). take j (entries (region_of m s))) (sym w.len) in
       let e = above h w.height in
       let b : join_over (below m (h - 1)) (kids_to m s n) ≡ bytes_below m h s = ap (join_over (below m (h - 1))) k ∙ sym (list-bytes m s (h - 1)) ∙ ap (λ (j : ℕ). bytes_below m j s) (sym e) in
@@ -80,10 +80,10 @@ module _ (m seen : List ℕ) (least h s n : ℕ) (l : s < length seen) (z : get_
               seams = ap (λ ks. seamless (map (below m (h - 1)) ks)) (sym k) ∙ f.seams;
             });
         fresh = record { at = λ x. omega (arith, u x, (marked-now seen s l z).at x, f.fresh.at x) };
-        told = subst (λ (x : List ℕ). Told x sum lf cr) b f.told;
+        told = subst (λ (x : List ℕ). Told x q.sum q.lf q.cr) b f.told;
         marked = record { at = λ x. omega (arith, u x, (marked-now seen s l z).at x, f.marked.at x) };
       }
-  list-met later w Bad f = λ g fr.
+  list-met later w None f = λ g fr.
       let k : kids_to m s n ≡ children_of m s = ap (λ (j : ℕ). take j (entries (region_of m s))) (sym w.len) in
       let e = above h w.height in
       let u : (x : ℕ) → uses m h s x ≡ hit s x + uses_of m (h - 1) (kids_to m s n) x = λ x. ap (λ (j : ℕ). uses m j s x) e ∙ list-uses m s (h - 1) x ∙ ap (λ ks. hit s x + uses_of m (h - 1) ks x) (sym k) in
@@ -92,5 +92,5 @@ module _ (m seen : List ℕ) (least h s n : ℕ) (l : s < length seen) (z : get_
       (record { at = λ x. omega (arith, u x, (marked-now seen s l z).at x, fr.at x) })
 
 -- an answer that is known by its constructor
-pub shape_is : (m : List ℕ) (least h s : ℕ) (r q : Shape) → r ≡ q → ShapeIs m least h s r → ShapeIs m least h s q
-shape_is m least h s r q e = subst (λ (x : Shape). ShapeIs m least h s x) e
+pub shape_is : (m : List ℕ) (least h s : ℕ) (r q : Option Shape) → r ≡ q → ShapeIs m least h s r → ShapeIs m least h s q
+shape_is m least h s r q e = subst (λ (x : Option Shape). ShapeIs m least h s x) e

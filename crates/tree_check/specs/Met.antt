@@ -1,6 +1,6 @@
--- What the check of a tree answers: `Fine` exactly where the tree is sound, uses no slot twice and none that was met before. With it the
+-- What the check of a tree answers: `Some` exactly where the tree is sound, uses no slot twice and none that was met before. With it the
 -- counts of its text, whether the text begins with LF, and whether it ends in CR.
-use Rattle.std.specs.Prelude.{◌≡◌, Bool, true, not, cond, ◌&&◌, List, map, ℕ, ◌+◌, ◌≤◌, eqb, get_or, take}
+use Rattle.std.specs.Prelude.{◌≡◌, Option, Some, None, Bool, true, not, cond, ◌&&◌, List, map, ℕ, ◌+◌, ◌≤◌, eqb, get_or, take}
 use Rattle.plain.specs.Utf8.{valid_utf8, decode}
 use Rattle.plain.specs.Count.{bit, cr_last, lf_first}
 use Rattle.text_info.specs.declared.TextInfo.{TextInfo}
@@ -11,7 +11,6 @@ use Rattle.nodes.specs.Node.{is_leaf, is_list}
 use Rattle.tree.specs.Tree.{bytes_below, uses, join_over, every, seamless, sum_of, tells, sound}
 use Rattle.tree.specs.Kids.{below, fine, uses_of}
 use Rattle.tree_check.specs.declared.Met.{Met}
-use Rattle.tree_check.specs.declared.Met.TheVariants.{Fine, Bad}
 use Rattle.tree_check.specs.declared.Shape.{Shape}
 use Rattle.tree_check.specs.declared.Shape.TheVariants as Shape·case
 
@@ -41,13 +40,13 @@ pub record TextFine (t : List ℕ) (sum : TextSum) (lf cr : Bool) : Type 0 where
   pub valid : valid_utf8 t ≡ true
   pub told : Told t sum lf cr
 
-abbrev pub TextMet : List ℕ → Met → Type 0
-TextMet t (Fine sum lf cr) = TextFine t sum lf cr
-TextMet t Bad = valid_utf8 t ≡ true → ⊥
+abbrev pub TextMet : List ℕ → Option Met → Type 0
+TextMet t (Some k) = TextFine t k.sum k.lf k.cr
+TextMet t None = valid_utf8 t ≡ true → ⊥
 
 -- ── a node ──
 
--- a slot that can be a node of height h: a leaf or a list with its length, which is `least` or more
+-- a slot that can be a node of height h: a leaf or a list with its which is `least` or more
 pub record LeafShape (m : List ℕ) (least h s n : ℕ) : Type 0 where
   pub height : h ≡ 0
   pub leaf : is_leaf m s ≡ true
@@ -62,10 +61,10 @@ pub record ListShape (m : List ℕ) (least h s n : ℕ) : Type 0 where
   pub size : least ≤ n
   pub few : n ≤ 16
 
-abbrev pub ShapeIs : List ℕ → ℕ → ℕ → ℕ → Shape → Type 0
-ShapeIs m least h s (Shape·case.Leaf n) = LeafShape m least h s n
-ShapeIs m least h s (Shape·case.List n) = ListShape m least h s n
-ShapeIs m least h s Shape·case.Wrong = sound m least h s ≡ true → ⊥
+abbrev pub ShapeIs : List ℕ → ℕ → ℕ → ℕ → Option Shape → Type 0
+ShapeIs m least h s (Some (Shape·case.Leaf n)) = LeafShape m least h s n
+ShapeIs m least h s (Some (Shape·case.List n)) = ListShape m least h s n
+ShapeIs m least h s None = sound m least h s ≡ true → ⊥
 
 pub record NodeFine (m seen later : List ℕ) (least h s : ℕ) (sum : TextSum) (lf cr : Bool) : Type 0 where
   pub good : sound m least h s ≡ true
@@ -73,9 +72,9 @@ pub record NodeFine (m seen later : List ℕ) (least h s : ℕ) (sum : TextSum) 
   pub told : Told (bytes_below m h s) sum lf cr
   pub marked : Marked seen (uses m h s) later
 
-abbrev pub NodeMet : List ℕ → List ℕ → List ℕ → ℕ → ℕ → ℕ → Met → Type 0
-NodeMet m seen later least h s (Fine sum lf cr) = NodeFine m seen later least h s sum lf cr
-NodeMet m seen later least h s Bad = sound m least h s ≡ true → Fresh seen (uses m h s) → ⊥
+abbrev pub NodeMet : List ℕ → List ℕ → List ℕ → ℕ → ℕ → ℕ → Option Met → Type 0
+NodeMet m seen later least h s (Some k) = NodeFine m seen later least h s k.sum k.lf k.cr
+NodeMet m seen later least h s None = sound m least h s ≡ true → Fresh seen (uses m h s) → ⊥
 
 -- ── children of height h ──
 
@@ -98,6 +97,6 @@ pub record KidsFine (m seen later : List ℕ) (h : ℕ) (ks : List Kid) (sum : T
   pub told : Told (join_over (below m h) ks) sum lf cr
   pub marked : Marked seen (uses_of m h ks) later
 
-abbrev pub KidsMet : List ℕ → List ℕ → List ℕ → ℕ → List Kid → Met → Type 0
-KidsMet m seen later h ks (Fine sum lf cr) = KidsFine m seen later h ks sum lf cr
-KidsMet m seen later h ks Bad = every (fine m h) ks ≡ true → seamless (map (below m h) ks) ≡ true → Fresh seen (uses_of m h ks) → ⊥
+abbrev pub KidsMet : List ℕ → List ℕ → List ℕ → ℕ → List Kid → Option Met → Type 0
+KidsMet m seen later h ks (Some k) = KidsFine m seen later h ks k.sum k.lf k.cr
+KidsMet m seen later h ks None = every (fine m h) ks ≡ true → seamless (map (below m h) ks) ≡ true → Fresh seen (uses_of m h ks) → ⊥

@@ -11,16 +11,17 @@ ghost use Rattle.tree_check.specs.Met.{ShapeIs, NodeMet, KidsMet, kids_to};
 
 pub use crate::texts::tells;
 use crate::texts::{begun, check_leaf, follows, plus};
-use answer::Number;
+use answer::Answer;
 use nodes::{MIN_BYTES, MIN_LEN};
 use pool::{Head, child_of, head_of, info_of};
-use text_info::{Info, TextSum};
+use text_info::TextSum;
 
-// A sound tree: the counts of its text, whether this begins with LF, and whether it ends in CR.
+// What is told of a sound tree: the counts of its text, whether this begins with LF, and whether it ends in CR.
 #[derive(Clone, Copy)]
-pub enum Met {
-    Fine(TextSum, bool, bool),
-    Bad,
+pub struct Met {
+    pub sum: TextSum,
+    pub lf: bool,
+    pub cr: bool,
 }
 
 // What a slot can be in the tree, with its length.
@@ -28,7 +29,6 @@ pub enum Met {
 enum Shape {
     Leaf(usize),
     List(usize),
-    Wrong,
 }
 
 fn least_of(level: u8) -> usize
@@ -41,55 +41,54 @@ fn least_of(level: u8) -> usize
 }
 
 // What the slot of a node at this height is.
-fn shape_of(m: &[u8], level: u8, slot: usize, least: usize) -> Shape
+fn shape_of(m: &[u8], level: u8, slot: usize, least: usize) -> Option<Shape>
     ensures { ShapeIs m.now least level slot result }
 {
     match head_of(m, slot) {
-        Head::Leaf(n) => {
+        Ok(Head::Leaf(n)) => {
             if level != 0 {
-                return Shape::Wrong;
+                return None;
             }
             if n < least {
-                return Shape::Wrong;
+                return None;
             }
-            Shape::Leaf(n)
+            Some(Shape::Leaf(n))
         }
-        Head::List(n) => {
+        Ok(Head::List(n)) => {
             if level == 0 {
-                return Shape::Wrong;
+                return None;
             }
             if n < least {
-                return Shape::Wrong;
+                return None;
             }
-            Shape::List(n)
+            Some(Shape::List(n))
         }
-        Head::Free(_) => Shape::Wrong,
-        Head::Refused(_) => Shape::Wrong,
+        Ok(Head::Free(_)) => None,
+        Err(_) => None,
     }
 }
 
 // The tree of this height at a slot, of `least` bytes or children. `seen` has a byte for each slot, 0 where it was not met.
 #[cycle(check_list_check_node)]
-pub fn check_node(m: &[u8], seen: &mut [u8], level: u8, slot: usize, least: usize) -> Met
+pub fn check_node(m: &[u8], seen: &mut [u8], level: u8, slot: usize, least: usize) -> Option<Met>
     ensures { NodeMet m.now seen.old seen.new least level slot result }
 {
     if seen.len() <= slot {
-        return Met::Bad;
+        return None;
     }
     if seen[slot] != 0 {
-        return Met::Bad;
+        return None;
     }
     seen[slot] = 1;
-    match shape_of(m, level, slot, least) {
+    match shape_of(m, level, slot, least)? {
         Shape::Leaf(n) => check_leaf(m, slot, n),
         Shape::List(n) => check_list(m, seen, level - 1, slot, n),
-        Shape::Wrong => Met::Bad,
     }
 }
 
 // The n children of a list, each of this height.
 #[cycle(check_list_check_node)]
-fn check_list(m: &[u8], seen: &mut [u8], level: u8, slot: usize, n: usize) -> Met
+fn check_list(m: &[u8], seen: &mut [u8], level: u8, slot: usize, n: usize) -> Option<Met>
     requires { (outside m.now slot ≡ false) × (n ≤ 16) }
     ensures { KidsMet m.now seen.old seen.new level (kids_to m.now slot n) result }
 {
@@ -97,24 +96,20 @@ fn check_list(m: &[u8], seen: &mut [u8], level: u8, slot: usize, n: usize) -> Me
     let mut sum = TextSum::new();
     let mut lf = false;
     let mut cr = false;
-    let mut i = 0;
-    while i < n {
-        let Number::Is(child) = child_of(m, slot, i) else {
-            return Met::Bad;
+    for i in 0..n {
+        let Ok(child) = child_of(m, slot, i) else {
+            return None;
         };
-        let Info::Is(info) = info_of(m, slot, i) else {
-            return Met::Bad;
+        let Ok(info) = info_of(m, slot, i) else {
+            return None;
         };
-        let Met::Fine(got, first, last) = check_node(m, seen, level, child, least) else {
-            return Met::Bad;
-        };
-        if !follows(info, got, cr, first) {
-            return Met::Bad;
+        let met = check_node(m, seen, level, child, least)?;
+        if !follows(info, met.sum, cr, met.lf) {
+            return None;
         }
         sum = plus(sum, info);
-        lf = begun(i, lf, first);
-        cr = last;
-        i += 1;
+        lf = begun(i, lf, met.lf);
+        cr = met.cr;
     }
-    Met::Fine(sum, lf, cr)
+    Some(Met { sum, lf, cr })
 }

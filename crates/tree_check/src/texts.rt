@@ -11,7 +11,7 @@ ghost use Rattle.tree.specs.Tree as tree;
 ghost use Rattle.tree_check.specs.Met as met;
 
 use crate::Met;
-use answer::Number;
+use answer::Answer;
 use lines_crlf::survey::of_text;
 use pool::region_start;
 use str_indices::{chars, utf16};
@@ -37,7 +37,7 @@ fn ends_cr(text: &[u8]) -> bool
 }
 
 // What is told of a text that is one, from the counts of its bytes.
-fn fine(text: &[u8], starts: usize, pairs: usize, lines: usize) -> Met
+fn fine(text: &[u8], starts: usize, pairs: usize, lines: usize) -> Option<Met>
     requires { (valid_utf8 text.now ≡ true) × (starts ≡ count_if is_start text.now) × (pairs ≡ count_if is_wide text.now) × (lines ≡ breaks text.now) }
     ensures { met.TextMet text.now result }
 {
@@ -47,12 +47,16 @@ fn fine(text: &[u8], starts: usize, pairs: usize, lines: usize) -> Met
         utf16_surrogates: pairs as u64,
         line_breaks: lines as u64,
     };
-    Met::Fine(sum, begins_lf(text), ends_cr(text))
+    Some(Met {
+        sum,
+        lf: begins_lf(text),
+        cr: ends_cr(text),
+    })
 }
 
 // A text by itself, its form and its counts in as few passes as its highest byte allows: ASCII is text, with as many chars as bytes; below F0 no
 // char has four bytes.
-fn check_text(text: &[u8]) -> Met
+fn check_text(text: &[u8]) -> Option<Met>
     ensures { met.TextMet text.now result }
 {
     let s = of_text(text);
@@ -61,12 +65,12 @@ fn check_text(text: &[u8]) -> Met
     }
     if s.high < 0xF0 {
         if !utf8::valid_bmp(text) {
-            return Met::Bad;
+            return None;
         }
         return fine(text, chars::count(text), 0, s.count);
     }
     if !utf8::valid(text) {
-        return Met::Bad;
+        return None;
     }
     fine(
         text,
@@ -77,30 +81,21 @@ fn check_text(text: &[u8]) -> Met
 }
 
 // The text in the first n bytes of a slot's region.
-pub(crate) fn check_leaf(m: &[u8], slot: usize, n: usize) -> Met
+pub(crate) fn check_leaf(m: &[u8], slot: usize, n: usize) -> Option<Met>
     requires { (outside m.now slot ≡ false) × (n ≤ 512) }
     ensures { met.TextMet (leaf_of (region_of m.now slot) n) result }
 {
-    match region_start(m, slot) {
-        Number::Refused(_) => Met::Bad,
-        Number::Is(at) => check_text(&m[at..at + n]),
-    }
+    let Ok(at) = region_start(m, slot) else {
+        return None;
+    };
+    check_text(&m[at..at + n])
 }
 
 // Whether stored counts are the counted ones.
 pub fn tells(info: TextInfo, got: TextSum) -> bool
     ensures { result ≡ tree.tells info got }
 {
-    if info.bytes as u64 != got.bytes {
-        return false;
-    }
-    if info.chars as u64 != got.chars {
-        return false;
-    }
-    if info.utf16_surrogates as u64 != got.utf16_surrogates {
-        return false;
-    }
-    info.line_breaks as u64 == got.line_breaks
+    TextSum::from(info) == got
 }
 
 // Whether a child may follow: told right, and its text does not begin with the LF of a CR before it.
@@ -121,7 +116,7 @@ pub(crate) fn plus(sum: TextSum, info: TextInfo) -> TextSum
     requires { Within sum 16 }
     ensures { Plus sum info result }
 {
-    sum.add(info)
+    sum + info
 }
 
 // Whether a text of i children and one more begins with LF.

@@ -1,10 +1,10 @@
 -- The leaf that a search for an index ends at, one level down at each step, and the counts of the text on its left; and what that means
 -- in a sound tree.
-use Rattle.std.specs.Prelude.{◌≡◌, true, false, ◌&&◌, cond, List, [], ◌++◌, ℕ, zero, suc, ◌+◌, ◌-◌, ◌*◌, get_or}
+use Rattle.std.specs.Prelude.{◌≡◌, true, false, ◌&&◌, cond, List, [], ◌++◌, ℕ, zero, suc, ◌+◌, ◌-◌, ◌*◌, get_or, Ok, Err}
 use Rattle.plain.specs.Utf8.{valid_utf8, decode}
 use Rattle.plain.specs.Count.{cr_last, lf_first}
 use Rattle.plain.specs.Outcome.{Outcome, Outcome.value, Outcome.refused, mapped}
-use Rattle.answer.specs.Answers.{refusal_number}
+use Rattle.answer.specs.Answers.{refusal_number, Answer}
 use Rattle.text_info.specs.Info.{zeros}
 use Rattle.text_info.specs.declared.TextSum.{TextSum}
 use Rattle.pool.specs.Slot.{no_kid}
@@ -14,18 +14,6 @@ use Rattle.child_search.specs.declared.Measure.TheVariants.{Bytes, Chars, Utf16,
 use Rattle.child_search.specs.Sought.{stops_at, searched, Within}
 use Rattle.nodes.specs.Node.{is_leaf, is_list, text_of, children_of}
 use Rattle.tree.specs.Tree.{bytes_below, sum_of, plus_sum}
-use Rattle.tree_search.specs.declared.Spot.{Spot}
-use Rattle.tree_search.specs.declared.Spot.TheVariants as Spot·case
-use Rattle.tree_search.specs.declared.Branch.{Branch}
-use Rattle.tree_search.specs.declared.Branch.TheVariants as Branch·case
-
-abbrev pub spot : Spot → Outcome (ℕ × TextSum)
-spot (Spot·case.At s left) = value (s, left)
-spot (Spot·case.Refused r) = refused (refusal_number r)
-
-abbrev pub branch : Branch → Outcome (ℕ × (ℕ × TextSum))
-branch (Branch·case.At i s left) = value (i, (s, left))
-branch (Branch·case.Refused r) = refused (refusal_number r)
 
 -- the count of a sum that a search goes by
 abbrev pub count_in : Measure → TextSum → ℕ
@@ -36,14 +24,14 @@ count_in Breaks s = s.line_breaks
 count_in CharEnds s = s.chars
 
 -- sums that a search through h lists can find on the left
-abbrev pub Bounded : ℕ → Spot → Type 0
-Bounded h (Spot·case.At s left) = Within left (16 * h)
-Bounded h (Spot·case.Refused r) = Unit {0}
+abbrev pub Bounded : ℕ → Answer (ℕ × TextSum) → Type 0
+Bounded h (Ok (s, left)) = Within left (16 * h)
+Bounded h (Err r) = Unit {0}
 
 -- and those that a search in one list can
-abbrev pub Narrow : Branch → Type 0
-Narrow (Branch·case.At i s left) = Within left 16
-Narrow (Branch·case.Refused r) = Unit {0}
+abbrev pub Narrow : Answer (ℕ × (ℕ × TextSum)) → Type 0
+Narrow (Ok (i, (s, left))) = Within left 16
+Narrow (Err r) = Unit {0}
 
 -- the child of the list in slot s that an index lies in: its index, its slot, and the counts on its left
 unfoldable pub branch_at : List ℕ → ℕ → Measure → ℕ → Outcome (ℕ × (ℕ × TextSum))

@@ -2,29 +2,16 @@
 // by 2; where the index is past the end of what lies below one, by 3.
 #![tactic(auto)]
 
+ghost use Rattle.answer.specs.Answers.{outcome};
 ghost use Rattle.std.specs.Prelude.{◌≡◌, ◌-◌};
 ghost use Rattle.child_search.specs.Sought.{Within};
 ghost use Rattle.tree.specs.Tree.{plus_sum};
-ghost use Rattle.tree_search.specs.Search.{spot, branch, Bounded, Narrow, count_in, branch_at, leaf_at};
+ghost use Rattle.tree_search.specs.Search.{Bounded, Narrow, count_in, branch_at, leaf_at};
 
-use answer::{Number, Refusal};
-use child_search::{Found, Measure};
+use answer::{Answer, Refusal};
+use child_search::Measure;
 use pool::child_of;
 use text_info::TextSum;
-
-// A leaf's slot, and the counts of the text on its left.
-#[derive(Clone, Copy)]
-pub enum Spot {
-    At(usize, TextSum),
-    Refused(Refusal),
-}
-
-// A child of a list: its index, its slot, and the counts of the text on its left.
-#[derive(Clone, Copy)]
-pub enum Branch {
-    At(usize, usize, TextSum),
-    Refused(Refusal),
-}
 
 fn less(at: usize, left: u64) -> usize
     ensures { result ≡ at - left }
@@ -62,33 +49,22 @@ fn joined(a: TextSum, b: TextSum) -> TextSum
 }
 
 // The child of a list that an index lies in.
-pub fn child_at(m: &[u8], slot: usize, by: Measure, at: usize) -> Branch
-    ensures { (branch result ≡ branch_at m.now slot by at) × Narrow result }
+pub fn child_at(m: &[u8], slot: usize, by: Measure, at: usize) -> Answer<(usize, (usize, TextSum))>
+    ensures { (outcome result ≡ branch_at m.now slot by at) × Narrow result }
 {
-    match nodes::search(m, slot, by, at) {
-        Found::Refused(r) => Branch::Refused(r),
-        Found::At(i, left) => match child_of(m, slot, i) {
-            Number::Refused(r) => Branch::Refused(r),
-            Number::Is(kid) => Branch::At(i, kid, left),
-        },
-    }
+    let (i, left) = nodes::search(m, slot, by, at)?;
+    let kid = child_of(m, slot, i)?;
+    Ok((i, (kid, left)))
 }
 
 // The leaf that an index lies in, of the tree of a height at a slot.
-pub fn leaf_at(m: &[u8], level: u8, slot: usize, by: Measure, at: usize) -> Spot
-    ensures { (spot result ≡ leaf_at m.now level slot by at) × Bounded level result }
+pub fn leaf_at(m: &[u8], level: u8, slot: usize, by: Measure, at: usize) -> Answer<(usize, TextSum)>
+    ensures { (outcome result ≡ leaf_at m.now level slot by at) × Bounded level result }
 {
     if level == 0 {
-        return Spot::At(slot, TextSum::new());
+        return Ok((slot, TextSum::new()));
     }
-    match child_at(m, slot, by, at) {
-        Branch::Refused(r) => Spot::Refused(r),
-        Branch::At(_, kid, left) => {
-            let down = leaf_at(m, level - 1, kid, by, rest(by, at, left));
-            let Spot::At(leaf, inner) = down else {
-                return down;
-            };
-            Spot::At(leaf, joined(left, inner))
-        }
-    }
+    let (_, (kid, left)) = child_at(m, slot, by, at)?;
+    let (leaf, inner) = leaf_at(m, level - 1, kid, by, rest(by, at, left))?;
+    Ok((leaf, joined(left, inner)))
 }

@@ -6,7 +6,7 @@ use Prim.Native.Nat.{ℕ, suc, ◌≤◌, ◌<◌}
 use native.Mathlib.Omega.{arith}
 use lib.Dec.{ltb, leb, eqb}
 use borrow.Author.Tests.{lt-ltb, le-ltb, le-leb, lt-leb, ne_eqb}
-use Rattle.plain.specs.Utf8.{Row, row, within, class_of, row_of, due, valid_utf8}
+use Rattle.plain.specs.Utf8.{Row, row, class_of, row_of, due, valid_utf8}
 use Rattle.plain.proofs.Logic.{cut}
 use Rattle.plain.proofs.Table.{within-yes, within_low, within-high, View, View.none, View.row1, View.row2, View.row3, View.row4, View.row5, View.row6, View.row7, View.row8, View.row9, view, class-1, class-2, class-3, class-4, class-5, class-6, class-7, class-8, class-9}
 use Rattle.utf8.specs.Window.{owed, is_later, out_of, bad_at, scan}

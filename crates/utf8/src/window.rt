@@ -80,10 +80,8 @@ fn part(far: bool, text: &[u8], a: usize, e: usize) -> bool
     ensures { Parted far text.now a e result }
 {
     let mut w = false;
-    let mut i = a;
-    while i < e {
+    for i in a..e {
         w = w | window(far, text, i);
-        i += 1;
     }
     w
 }

@@ -22,12 +22,12 @@ loop-idx-init c =
     let a = c.args in
     (omega arith, walk_start a.by a.at (take a.n (entries (region_of a.m.now a.slot))) c.new-left.result c.new-left.ensures)
 
-pub returns-in-Refused : goal.returns-in-Refused
-returns-in-Refused c =
+pub returns-in_err-info : goal.returns-in_err-info
+returns-in_err-info c =
     let a = c.args in
     let l = c.loop-idx in
     let k = c.info_of in
-    absurd (info-there a.m.now a.slot l.idx (ltb-false _ _ c.requires.0) (omega arith) k.result k.ensures _ c.in-Refused.is)
+    absurd (info-there a.m.now a.slot l.idx (ltb-false _ _ c.requires.0) (omega arith) k.result k.ensures _ c.in_err-info.was)
 
 pub plus-next-requires : goal.plus-next-requires
 plus-next-requires c = let l = c.loop-idx in within_more l.left l.idx 16 (omega arith) l.invariant.1.small
@@ -43,7 +43,7 @@ returns-then-stops c =
     let a = c.args in
     let r = region_of a.m.now a.slot in
     let k = c.info_of in
-    let o = info-opened a.m.now a.slot l.idx (ltb-false _ _ c.requires.0) (omega arith) k.result k.ensures _ c.in-Is.is in
+    let o = info-opened a.m.now a.slot l.idx (ltb-false _ _ c.requires.0) (omega arith) k.result k.ensures _ c.in_ok-info.was in
     (walk-stops (entries r) (entries-length r) a.n (omega arith) a.by a.at l.idx l.left c.plus-next.result _ (omega arith) l.invariant.1 o c.plus-next.ensures (sym c.stops.ensures ∙ c.if-stops.true), (omega arith, within_more l.left l.idx 16 (omega arith) l.invariant.1.small))
 
 pub overflow_add-idx : goal.overflow_add-idx
@@ -58,7 +58,7 @@ loop-idx-preserved c =
     let a = c.args in
     let r = region_of a.m.now a.slot in
     let k = c.info_of in
-    let o = info-opened a.m.now a.slot l.idx (ltb-false _ _ c.requires.0) (omega arith) k.result k.ensures _ c.in-Is.is in
+    let o = info-opened a.m.now a.slot l.idx (ltb-false _ _ c.requires.0) (omega arith) k.result k.ensures _ c.in_ok-info.was in
     (omega arith, walk-on (entries r) (entries-length r) a.n (omega arith) a.by a.at l.idx l.left c.plus-next.result _ (omega arith) l.invariant.1 o c.plus-next.ensures (omega arith) (sym c.stops.ensures ∙ c.if-stops.false))
 
 pub plus-requires : goal.plus-requires
@@ -75,21 +75,21 @@ returns-then-most-at c =
     let a = c.args in
     let r = region_of a.m.now a.slot in
     let k = c.info_of-2 in
-    let o = info-opened a.m.now a.slot l.idx (ltb-false _ _ c.requires.0) (omega arith) k.result k.ensures _ c.in-Is-info_of.is in
+    let o = info-opened a.m.now a.slot l.idx (ltb-false _ _ c.requires.0) (omega arith) k.result k.ensures _ c.in_ok-end.was in
     (walk-past (entries r) (entries-length r) a.n (omega arith) a.by a.at l.idx l.left c.plus.result _ (omega arith) l.invariant.1 o c.plus.ensures (omega arith) _ c.most.ensures (omega arith), tt)
 
-pub returns-in-Refused-info_of : goal.returns-in-Refused-info_of
-returns-in-Refused-info_of c =
+pub returns-in_err-end : goal.returns-in_err-end
+returns-in_err-end c =
     let a = c.args in
     let l = c.loop-idx in
     let k = c.info_of-2 in
-    absurd (info-there a.m.now a.slot l.idx (ltb-false _ _ c.requires.0) (omega arith) k.result k.ensures _ c.in-Refused-info_of.is)
+    absurd (info-there a.m.now a.slot l.idx (ltb-false _ _ c.requires.0) (omega arith) k.result k.ensures _ c.in_err-end.was)
 
-pub returns-else-most-at : goal.returns-else-most-at
-returns-else-most-at c =
+pub returns : goal.returns
+returns c =
     let l = c.loop-idx in
     let a = c.args in
     let r = region_of a.m.now a.slot in
     let k = c.info_of-2 in
-    let o = info-opened a.m.now a.slot l.idx (ltb-false _ _ c.requires.0) (omega arith) k.result k.ensures _ c.in-Is-info_of.is in
+    let o = info-opened a.m.now a.slot l.idx (ltb-false _ _ c.requires.0) (omega arith) k.result k.ensures _ c.in_ok-end.was in
     (walk-last (entries r) (entries-length r) a.n (omega arith) a.by a.at l.idx l.left c.plus.result _ (omega arith) l.invariant.1 o c.plus.ensures (omega arith) _ c.most.ensures (omega arith), (omega arith, within_more l.left l.idx 16 (omega arith) l.invariant.1.small))

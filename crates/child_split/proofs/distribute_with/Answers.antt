@@ -4,7 +4,7 @@ use mathlib.Core.List.{List, ◌++◌}
 use native.Mathlib.Omega.{arith}
 use lib.ListN.{length-map}
 use Rattle.plain.specs.Outcome.{mapped}
-use Rattle.answer.proofs.Opened.{verdict-never}
+use Rattle.answer.proofs.Opened.{never-refused}
 use Rattle.pool.specs.declared.Kid.{Kid}
 use Rattle.node_children.specs.Kids.{kids}
 use Rattle.node_children.proofs.Lists.{kids-length, whole, is-kids}
@@ -30,18 +30,18 @@ level-requires c =
     let g = left-holds a.other wr (omega arith) a.other.len c.split_off-theirs.result (omega arith) c.split_off-theirs.ensures in
     (f.clean, g.clean, omega (arith, f.len), omega (arith, g.len), omega (arith, f.len, g.len))
 
-pub returns-in-Refused : goal.returns-in-Refused
-returns-in-Refused c =
+pub returns-in-Err : goal.returns-in-Err
+returns-in-Err c =
     let a = c.args in
-    verdict-never _ c.split_off-ours.result.verdict (c.split_off-ours.ensures.answered ∙ ap (mapped (λ x. tt)) (split_done a.list a.list.len (omega arith) (omega arith))) c.in-Refused.is
+    never-refused _ c.split_off-ours.result.verdict tt (c.split_off-ours.ensures.answered ∙ ap (mapped (λ x. tt)) (split_done a.list a.list.len (omega arith) (omega arith))) c.in-Err.is
 
-pub returns-in-Refused-too : goal.returns-in-Refused-too
-returns-in-Refused-too c =
+pub returns-in-Err-too : goal.returns-in-Err-too
+returns-in-Err-too c =
     let a = c.args in
-    verdict-never _ c.split_off-theirs.result.verdict (c.split_off-theirs.ensures.answered ∙ ap (mapped (λ x. tt)) (split_done a.other a.other.len (omega arith) (omega arith))) c.in-Refused-too.is
+    never-refused _ c.split_off-theirs.result.verdict tt (c.split_off-theirs.ensures.answered ∙ ap (mapped (λ x. tt)) (split_done a.other a.other.len (omega arith) (omega arith))) c.in-Err-too.is
 
-pub returns-in-Accepted-too : goal.returns-in-Accepted-too
-returns-in-Accepted-too c =
+pub returns-in-Ok-too : goal.returns-in-Ok-too
+returns-in-Ok-too c =
     let a = c.args in
     let wl = kids-length a.list (omega arith) (c.well_formed.0.1.1.1.0.1.0.1) in
     let wr = kids-length a.other (omega arith) (c.well_formed.1.0.1.1.1.0.1.0.1) in

@@ -3,7 +3,7 @@ use mathlib.Core.Path.{refl, ◌∙◌}
 use mathlib.Core.List.{◌++◌}
 use Prim.Native.Nat.{◌+◌, ◌-◌}
 use native.Mathlib.Omega.{arith}
-use Rattle.answer.proofs.Opened.{verdict-never}
+use Rattle.answer.proofs.Opened.{never-refused}
 use Rattle.node_children.specs.Kids.{kids}
 use Rattle.node_children.proofs.Halves.{Joined, shared}
 use Rattle.child_split.proofs.Moves.{moved-right, moved-left}
@@ -20,7 +20,7 @@ to_right-two-requires c =
     (j.left-clean, j.right-clean, omega (arith, j.both, j.right-len), j.left-len, omega (arith, j.both, j.left-len))
 
 pub returns-in_default : goal.returns-in_default
-returns-in_default c = verdict-never _ c.to_right-two.result.verdict c.to_right-two.ensures.answered c.in_default.is
+returns-in_default c = never-refused _ c.to_right-two.result.verdict tt c.to_right-two.ensures.answered c.in_default.is
 
 pub loop-right-smaller : goal.loop-right-smaller
 loop-right-smaller c =
@@ -46,7 +46,7 @@ to_left-two-requires c =
     (j.left-clean, j.right-clean, omega arith, j.right-len, omega (arith, j.both, j.right-len))
 
 pub returns-in_default-may : goal.returns-in_default-may
-returns-in_default-may c = verdict-never _ c.to_left-two.result.verdict c.to_left-two.ensures.answered c.in_default-may.is
+returns-in_default-may c = never-refused _ c.to_left-two.result.verdict tt c.to_left-two.ensures.answered c.in_default-may.is
 
 pub loop-right-2-smaller : goal.loop-right-2-smaller
 loop-right-2-smaller c =

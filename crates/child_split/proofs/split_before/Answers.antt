@@ -5,7 +5,7 @@ use Prim.Native.Nat.{◌≤◌, ◌<◌}
 use native.Mathlib.Omega.{arith}
 use lib.ListN.{length-map}
 use Rattle.plain.specs.Outcome.{mapped}
-use Rattle.answer.proofs.Opened.{verdict-never}
+use Rattle.answer.proofs.Opened.{never-refused}
 use Rattle.node_children.specs.Kids.{list_of}
 use Rattle.node_children.proofs.Lists.{kids-length, clean-length}
 use Rattle.node_children.proofs.Rules.{parting-given, popped-done, inserted-done}
@@ -22,19 +22,19 @@ split_with-requires c =
     let i = inserted-holds p.result.list (clean-length _ f.clean) a.idx a.item c.insert-more.result (omega (arith, f.len)) (omega (arith, f.len)) c.insert-more.ensures in
     (omega (arith, i.len, f.len), omega (arith, i.len, f.len))
 
-pub returns-in-Refused : goal.returns-in-Refused
-returns-in-Refused c = verdict-never _ c.pop-last.result.verdict (c.pop-last.ensures.answered ∙ ap (mapped (λ x. tt)) (popped-done c.args.list (omega arith) (omega arith))) c.in-Refused.is
+pub returns-in-Err : goal.returns-in-Err
+returns-in-Err c = never-refused _ c.pop-last.result.verdict tt (c.pop-last.ensures.answered ∙ ap (mapped (λ x. tt)) (popped-done c.args.list (omega arith) (omega arith))) c.in-Err.is
 
-pub returns-in-Refused-may : goal.returns-in-Refused-may
-returns-in-Refused-may c =
+pub returns-in-Err-may : goal.returns-in-Err-may
+returns-in-Err-may c =
     let a = c.args in
     let p = c.pop-last in
     let w = kids-length a.list (omega arith) (c.well_formed.0.1.1.1.0.1.0.1) in
     let f = popped-holds a.list w (omega arith) p.result (omega arith) p.ensures in
-    verdict-never _ c.insert-more.result.verdict (c.insert-more.ensures.answered ∙ ap (mapped (λ x. tt)) (inserted-done p.result.list a.idx a.item (omega (arith, f.len)) (omega (arith, f.len)))) c.in-Refused-may.is
+    never-refused _ c.insert-more.result.verdict tt (c.insert-more.ensures.answered ∙ ap (mapped (λ x. tt)) (inserted-done p.result.list a.idx a.item (omega (arith, f.len)) (omega (arith, f.len)))) c.in-Err-may.is
 
-pub returns-in-Accepted-may : goal.returns-in-Accepted-may
-returns-in-Accepted-may c =
+pub returns-in-Ok-may : goal.returns-in-Ok-may
+returns-in-Ok-may c =
     let a = c.args in
     let p = c.pop-last in
     let n = c.insert-more in

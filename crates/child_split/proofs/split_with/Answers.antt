@@ -4,7 +4,7 @@ use mathlib.Core.List.{[], ◌∷◌}
 use native.Mathlib.Omega.{arith}
 use lib.ListN.{length-map}
 use Rattle.plain.specs.Outcome.{mapped}
-use Rattle.answer.proofs.Opened.{verdict-never}
+use Rattle.answer.proofs.Opened.{never-refused}
 use Rattle.node_children.proofs.Lists.{kids-length, clean-length, append-holds}
 use Rattle.node_children.proofs.Rules.{split_done, pushed-done}
 use Rattle.node_children.proofs.Halves.{halves-put}
@@ -14,18 +14,18 @@ use Rattle.child_split.proofs.split_with.Goals as goal
 pub returns-in_default : goal.returns-in_default
 returns-in_default c =
     let a = c.args in
-    verdict-never _ c.split_off-two.result.verdict (c.split_off-two.ensures.answered ∙ ap (mapped (λ x. tt)) (split_done a.list _ (omega arith) (omega arith))) c.in_default.is
+    never-refused _ c.split_off-two.result.verdict tt (c.split_off-two.ensures.answered ∙ ap (mapped (λ x. tt)) (split_done a.list _ (omega arith) (omega arith))) c.in_default.is
 
-pub returns-in-Refused : goal.returns-in-Refused
-returns-in-Refused c =
+pub returns-in-Err : goal.returns-in-Err
+returns-in-Err c =
     let a = c.args in
     let two = c.split_off-two in
     let w = kids-length a.list (omega arith) (c.well_formed.0.1.1.1.0.1.0.1) in
     let r = right-holds a.list w (omega arith) _ two.result (omega arith) two.ensures in
-    verdict-never _ c.push-more.result.verdict (c.push-more.ensures.answered ∙ ap (mapped (λ x. tt)) (pushed-done two.result.right a.item (omega (arith, r.len)))) c.in-Refused.is
+    never-refused _ c.push-more.result.verdict tt (c.push-more.ensures.answered ∙ ap (mapped (λ x. tt)) (pushed-done two.result.right a.item (omega (arith, r.len)))) c.in-Err.is
 
-pub returns-in-Accepted-may : goal.returns-in-Accepted-may
-returns-in-Accepted-may c =
+pub returns-in-Ok-may : goal.returns-in-Ok-may
+returns-in-Ok-may c =
     let a = c.args in
     let two = c.split_off-two in
     let n = c.push-more in

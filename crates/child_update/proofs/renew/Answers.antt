@@ -10,11 +10,11 @@ recount-requires c =
     let a = c.args in
     let p = c.requires in
     let k = c.kid_of in
-    (p.0, p.1, ap (λ (x : Kid). x.slot) (entry-opened k.result a.m.now a.slot a.idx _ k.ensures c.in-Is.is).2)
+    (p.0, p.1, ap (λ (x : Kid). x.slot) (entry-opened k.result a.m.now a.slot a.idx _ k.ensures c.in_ok-kid.was).2)
 
-pub returns-in-Refused : goal.returns-in-Refused
-returns-in-Refused c =
+pub returns-in_err-kid : goal.returns-in_err-kid
+returns-in_err-kid c =
     let a = c.args in
     let p = c.requires in
     let k = c.kid_of in
-    absurd (entry-there k.result a.m.now a.slot a.idx _ k.ensures c.in-Refused.is (inside a.m.now a.slot p.0) p.1)
+    absurd (entry-there k.result a.m.now a.slot a.idx _ k.ensures c.in_err-kid.was (inside a.m.now a.slot p.0) p.1)

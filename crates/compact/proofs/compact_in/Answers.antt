@@ -1,5 +1,5 @@
 -- `compact_in` meets its contract: the leaves that are left may be listed.
-use Rattle.answer.proofs.Opened.{verdict-never}
+use Rattle.answer.proofs.Opened.{never-refused}
 use Rattle.compact.proofs.Packing.{list-clean, list-few, may-relist, relisted-is}
 use Rattle.compact.proofs.compact_in.Goals as goal
 
@@ -9,8 +9,8 @@ compact-rest-requires c =
     let p = c.requires in
     (p.3, p.2, list-few a.m.now a.slot a.list p.0 p.1, list-clean a.m.now a.slot a.list p.0 p.1)
 
-pub returns-in_default : goal.returns-in_default
-returns-in_default c = verdict-never _ c.compact-rest.result.verdict c.compact-rest.ensures.1.answered c.in_default.is
+pub returns-in_err-rest : goal.returns-in_err-rest
+returns-in_err-rest c = never-refused _ c.compact-rest.result.verdict tt c.compact-rest.ensures.1.answered c.in_err-rest.was
 
 pub relist-requires : goal.relist-requires
 relist-requires c =

@@ -1,9 +1,13 @@
 -- `crlf::prev_break` meets its contract: refused past the end, else what `break_below` ensures.
-use Rattle.crlf.proofs.Laws.{at-past, at_in}
+use Rattle.answer.proofs.Opened.{raised}
+use Rattle.crlf.proofs.Laws.{at_in, index_in, index-refused}
 use Rattle.crlf.proofs.prev_break.Goals as goal
 
-pub returns-then-text-byte_idx : goal.returns-then-text-byte_idx
-returns-then-text-byte_idx c = at-past _ _ _ c.if-text-byte_idx.true
+pub returns-in_err-within : goal.returns-in_err-within
+returns-in_err-within c = rw (raised c.from_residual.ensures.1) (index-refused _ _ _ _ c.within.ensures _ _ c.in_err-within.was)
+
+pub break_below-requires : goal.break_below-requires
+break_below-requires c = index_in _ _ _ _ c.within.ensures _ c.in_ok-within.was
 
 pub returns : goal.returns
-returns c = at_in _ _ _ _ c.if-text-byte_idx.false c.break_below.ensures
+returns c = at_in _ _ _ _ (index_in _ _ _ _ c.within.ensures _ c.in_ok-within.was) c.break_below.ensures

@@ -1,8 +1,8 @@
+use Rattle.answer.specs.Answers.{outcome}
 use Rattle.journal_fields.proofs.Laws.{applied-bad, applied-call}
 use Rattle.plain_journal.proofs.Asked.{asks-remove, bad-remove}
 use Rattle.plain_journal.specs.Fields.{asked}
 use Rattle.octets.specs.Big.{four_at}
-use Rattle.answer.specs.Answers.{change}
 use Rattle.plain_calls.specs.Calls.{Call.remove, Said.by}
 use Rattle.plain.specs.Outcome.{Outcome.value}
 use Prim.Native.Nat.{ℕ}
@@ -19,6 +19,6 @@ returns c =
     let r = c.remove-answer in
     let s = c.number_at-start in
     let e = c.number_at-end in
-    applied-call (asked 2 b) a.m.now by _ (change r.result) c.code_of_change.result r.new.m
+    applied-call (asked 2 b) a.m.now by _ (outcome r.result) c.code_of.result r.new.m
     (asks-remove b c.if-body-ne8.false ∙ ap (λ (x : ℕ). value (remove x (four_at b 4))) (sym s.ensures.0) ∙ ap (λ (x : ℕ). value (remove s.result x)) (sym e.ensures.0))
-    c.code_of_change.ensures (change r.result, refl, r.ensures)
+    c.code_of.ensures (outcome r.result, refl, r.ensures)

@@ -2,8 +2,8 @@
 use Rattle.leaf_c.proofs.Laws.{leaves-are, leaves-refused}
 use Rattle.leaf_c.proofs.wol_leaf.Goals as goal
 
-pub returns-in-Are : goal.returns-in-Are
-returns-in-Are c = leaves-are _ _ _ _ _ _ _ c.in-Are.is c.ask_by.ensures
+pub returns-in-Ok : goal.returns-in-Ok
+returns-in-Ok c = leaves-are _ _ _ _ _ _ _ c.in-Ok.is c.ask_by.ensures
 
-pub returns-in-Refused : goal.returns-in-Refused
-returns-in-Refused c = leaves-refused _ _ _ _ _ _ _ c.in-Refused.is c.number_of.ensures c.ask_by.ensures
+pub returns-in-Err : goal.returns-in-Err
+returns-in-Err c = leaves-refused _ _ _ _ _ _ _ c.in-Err.is c.from.ensures c.ask_by.ensures

@@ -2,8 +2,8 @@
 use Rattle.leaf_c.proofs.Laws.{info-is, info-refused}
 use Rattle.leaf_c.proofs.wol_text_info.Goals as goal
 
-pub returns-in-Is : goal.returns-in-Is
-returns-in-Is c = info-is _ _ _ _ _ c.from_str.ensures _ c.in-Is.is
+pub returns-in-Ok : goal.returns-in-Ok
+returns-in-Ok c = info-is _ _ _ _ _ c.from_str.ensures _ c.in-Ok.is
 
-pub returns-in-Refused : goal.returns-in-Refused
-returns-in-Refused c = info-refused _ _ _ _ _ c.from_str.ensures _ _ c.in-Refused.is c.number_of.ensures
+pub returns-in-Err : goal.returns-in-Err
+returns-in-Err c = info-refused _ _ _ _ _ c.from_str.ensures _ _ c.in-Err.is c.from.ensures

@@ -42,17 +42,17 @@ lay_halves-requires c =
     let a = c.args in
     let r = a.region.now in
     let t = put_in a.at a.piece.now (leaf_of r a.len) in
-    let split = value-is _ _ c.half_split.ensures _ c.in-Is.is in
+    let split = value-is _ _ c.half_split.ensures _ c.in_ok-split.was in
     (omega arith, omega arith, omega (arith, split, half_le t, whole_length r a.piece.now a.len a.at 0 (omega arith) (omega arith)), omega arith)
 
-pub returns-in-Refused : goal.returns-in-Refused
-returns-in-Refused c = absurd (value-never _ _ c.half_split.ensures _ c.in-Refused.is)
+pub returns-in_err-split : goal.returns-in_err-split
+returns-in_err-split c = absurd (value-never _ _ c.half_split.ensures _ c.in_err-split.was)
 
-pub returns-in-Is : goal.returns-in-Is
-returns-in-Is c =
+pub returns : goal.returns
+returns c =
     let a = c.args in
     let r = a.region.now in
-    let split = value-is _ _ c.half_split.ensures _ c.in-Is.is in
+    let split = value-is _ _ c.half_split.ensures _ c.in_ok-split.was in
     leaves-same _ _ _ _ _ _ _
     (ap (cutting [] false r a.right.now (put_in a.at a.piece.now (leaf_of r a.len))) split
     ∙ sym (halve-rest r a.len a.at a.piece.now a.right.now (omega arith) (omega arith)))

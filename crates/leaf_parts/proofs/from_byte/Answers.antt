@@ -10,4 +10,4 @@ returns-in_default c =
 pub returns : goal.returns
 returns c =
     let a = c.args in
-    bytes-found a.m.now a.at c.spot_of.result _ _ c.text_at.result.now _ c.spot_of.ensures.0 c.in-At.is c.text_at.ensures.0 c.above.ensures _ c.behind.ensures.0
+    bytes-found a.m.now a.at c.spot_of.result _ _ c.text_at.result.now _ c.spot_of.ensures.0 c.in-Ok.is c.text_at.ensures.0 c.above.ensures _ c.behind.ensures.0

@@ -13,4 +13,4 @@ returns-in_default c =
 pub returns : goal.returns
 returns c =
     let a = c.args in
-    (chars-found a.m.now a.at c.spot_of.result _ _ c.text_at-text.result.now _ c.spot_of.ensures.0 c.in-At.is c.text_at-text.ensures.0 c.above-i.ensures _ c.byte_in.ensures.0 _ c.behind.ensures.0, part-of-part _ _ _ c.behind.ensures.1 c.text_at-text.ensures.2)
+    (chars-found a.m.now a.at c.spot_of.result _ _ c.text_at-text.result.now _ c.spot_of.ensures.0 c.in-Ok.is c.text_at-text.ensures.0 c.above-i.ensures _ c.byte_in.ensures.0 _ c.behind.ensures.0, part-of-part _ _ _ c.behind.ensures.1 c.text_at-text.ensures.2)

@@ -49,7 +49,7 @@ move_seam-requires c =
     let a = c.args in
     let l = leaf_of a.left.now a.len in
     let r = leaf_of a.right.now a.right_len in
-    let split = value-is _ _ c.seam_split.ensures _ c.in-Is.is in (
+    let split = value-is _ _ c.seam_split.ensures _ c.in_ok-split.was in (
       omega arith,
       omega arith,
       omega (arith, split, seam-le l r, length-take-le a.len a.left.now (omega arith), length-take-le a.right_len a.right.now (omega arith)),
@@ -57,13 +57,13 @@ move_seam-requires c =
       omega arith,
     )
 
-pub returns-in-Refused : goal.returns-in-Refused
-returns-in-Refused c = absurd (value-never _ _ c.seam_split.ensures _ c.in-Refused.is)
+pub returns-in_err-split : goal.returns-in_err-split
+returns-in_err-split c = absurd (value-never _ _ c.seam_split.ensures _ c.in_err-split.was)
 
-pub returns-in-Is : goal.returns-in-Is
-returns-in-Is c =
+pub returns : goal.returns
+returns c =
     let a = c.args in
-    let split = value-is _ _ c.seam_split.ensures _ c.in-Is.is in
+    let split = value-is _ _ c.seam_split.ensures _ c.in_ok-split.was in
     leaves-same _ _ _ _ _ _ _
     (ap (cutting [] false a.left.now a.right.now (leaf_of a.left.now a.len ++ leaf_of a.right.now a.right_len)) split
     ∙ sym (mend-rest a.left.now a.len a.right.now a.right_len (omega arith) (omega arith) (omega arith) (omega arith)))

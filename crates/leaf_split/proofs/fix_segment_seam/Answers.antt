@@ -1,4 +1,5 @@
 -- `fix_segment_seam` meets its contract: its own rules are asked first, and the layer below asks the rest.
+use Rattle.answer.proofs.Opened.{raised}
 use mathlib.Core.Path.{refl, sym}
 use native.Mathlib.Omega.{arith}
 use lib.ListN.{length-take}
@@ -19,16 +20,16 @@ slice_bounds-checked_seam-end-3 c = omega (arith, c.held-b.ensures, length-take 
 pub slice_bounds-checked_seam-end-4 : goal.slice_bounds-checked_seam-end-4
 slice_bounds-checked_seam-end-4 c = sym (length-take-le c.held-b.result c.args.r.now (omega (arith, c.held-b.ensures, length-take c.args.r_len c.args.r.now)))
 
-pub returns-in-Refused : goal.returns-in-Refused
-returns-in-Refused c =
+pub returns-in_err-checked_seam : goal.returns-in_err-checked_seam
+returns-in_err-checked_seam c = rw (raised c.from_residual.ensures.1) (
     let a = c.args in
     leaves-refused _ _ _ _ _
-    (seam-refused a.l.now a.l_len a.r.now a.r_len _ _ c.held-a.ensures c.held-b.ensures _ c.checked_seam.ensures _ c.in-Refused.is)
-    refl
+    (seam-refused a.l.now a.l_len a.r.now a.r_len _ _ c.held-a.ensures c.held-b.ensures _ c.checked_seam.ensures _ c.in_err-checked_seam.was)
+    refl)
 
-pub returns-in-Is : goal.returns-in-Is
-returns-in-Is c =
+pub returns : goal.returns
+returns c =
     let a = c.args in
     leaves-same _ _ _ _ _ _ _
-    (seam-mends a.l.now a.l_len a.r.now a.r_len _ _ c.held-a.ensures c.held-b.ensures _ c.checked_seam.ensures _ c.in-Is.is)
+    (seam-mends a.l.now a.l_len a.r.now a.r_len _ _ c.held-a.ensures c.held-b.ensures _ c.checked_seam.ensures _ c.in_ok-checked_seam.was)
     c.mend.ensures

@@ -1,4 +1,5 @@
 -- `split_off` meets its contract: its own rules are asked first, and the layer below asks the rest.
+use Rattle.answer.proofs.Opened.{raised}
 use mathlib.Core.Path.{refl, sym}
 use native.Mathlib.Omega.{arith}
 use lib.ListN.{length-take}
@@ -10,16 +11,16 @@ use Rattle.leaf_split.proofs.split_off.Goals as goal
 pub slice_bounds-checked-end : goal.slice_bounds-checked-end
 slice_bounds-checked-end c = sym (length-take-le c.held-n.result c.args.region.now (omega (arith, c.held-n.ensures, length-take c.args.len c.args.region.now)))
 
-pub returns-in-Refused : goal.returns-in-Refused
-returns-in-Refused c =
+pub returns-in_err-checked : goal.returns-in_err-checked
+returns-in_err-checked c = rw (raised c.from_residual.ensures.1) (
     let a = c.args in
     leaves-refused _ _ _ _ _
-    (split-refused a.region.now a.len a.byte_idx a.right.now _ c.held-n.ensures _ c.checked.ensures _ c.in-Refused.is)
-    refl
+    (split-refused a.region.now a.len a.byte_idx a.right.now _ c.held-n.ensures _ c.checked.ensures _ c.in_err-checked.was)
+    refl)
 
-pub returns-in-Is : goal.returns-in-Is
-returns-in-Is c =
+pub returns : goal.returns
+returns c =
     let a = c.args in
     leaves-same _ _ _ _ _ _ _
-    (split_parts a.region.now a.len a.byte_idx a.right.now _ c.held-n.ensures _ c.checked.ensures _ c.in-Is.is)
+    (split_parts a.region.now a.len a.byte_idx a.right.now _ c.held-n.ensures _ c.checked.ensures _ c.in_ok-checked.was)
     c.part.ensures

@@ -9,12 +9,6 @@ use Rattle.plain.proofs.Logic.{cut}
 use Rattle.plain.proofs.Count.{line-zero, start-turn, start-end}
 use Rattle.lines_crlf.proofs.to_byte_idx.Goals as goal
 
-pub loop-left-init : goal.loop-left-init
-loop-left-init c = (omega arith, omega arith)
-
-pub overflow_sub-text : goal.overflow_sub-text
-overflow_sub-text c = omega arith
-
 -- at the last byte, or behind it
 pub returns-then-text-i-le1 : goal.returns-then-text-i-le1
 returns-then-text-i-le1 c =
@@ -25,26 +19,11 @@ returns-then-text-i-le1 c =
     (λ h. omega (arith, start-turn text i h left (omega arith), ap suc (start-end text (i + 1) (omega arith) (left - bit (ends (get_or text i 0) (drop (i + 1) text))))))
     (λ h. omega (arith, start-end text i h left))
 
-pub ended-requires : goal.ended-requires
-ended-requires c = omega arith
-
-pub sum_of-left-requires : goal.sum_of-left-requires
-sum_of-left-requires c = tt
-
-pub overflow_sub-left : goal.overflow_sub-left
-overflow_sub-left c = omega arith
-
-pub overflow_add-i : goal.overflow_add-i
-overflow_add-i c = omega arith
-
-pub loop-left-smaller : goal.loop-left-smaller
-loop-left-smaller c = omega arith
-
 pub loop-left-preserved : goal.loop-left-preserved
 loop-left-preserved c =
     let text = c.args.text.now in
     let i = c.loop-left.i in
-    let e = ap (λ (n : ℕ). line_start (drop (i + 1) text) (c.loop-left.left - n)) (c.sum_of-left.ensures.0 ∙ c.ended.ensures.0) in
+    let e = ap (λ (n : ℕ). line_start (drop (i + 1) text) (c.loop-left.left - n)) (c.from-left.ensures ∙ c.ended.ensures.0) in
     (omega arith, omega (arith, e, start-turn text i (omega arith) c.loop-left.left (omega arith)))
 
 pub returns : goal.returns

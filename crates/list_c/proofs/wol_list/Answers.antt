@@ -2,8 +2,8 @@
 use Rattle.list_c.proofs.Laws.{list-is, list-refused}
 use Rattle.list_c.proofs.wol_list.Goals as goal
 
-pub returns-in-Are : goal.returns-in-Are
-returns-in-Are c = list-is _ _ _ _ _ c.ask_by.ensures _ _ _ _ _ c.in-Are.is
+pub returns-in-Ok : goal.returns-in-Ok
+returns-in-Ok c = list-is _ _ _ _ _ c.ask_by.ensures _ _ _ _ _ c.in-Ok.is
 
-pub returns-in-Refused : goal.returns-in-Refused
-returns-in-Refused c = list-refused _ _ _ _ _ c.ask_by.ensures _ _ c.in-Refused.is c.number_of.ensures
+pub returns-in-Err : goal.returns-in-Err
+returns-in-Err c = list-refused _ _ _ _ _ c.ask_by.ensures _ _ c.in-Err.is c.from.ensures

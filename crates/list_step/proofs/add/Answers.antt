@@ -15,26 +15,26 @@ part-requires c =
     let t = two-few a.m.now a.slot a.at a.item a.list c.requires.1 c.requires.2 o.result o.ensures c.if-n-lt-MAX_LEN.false in
     (c.requires.0, t.0, t.1)
 
-pub returns-in-Refused : goal.returns-in-Refused
-returns-in-Refused c =
+pub returns-in_err-more : goal.returns-in_err-more
+returns-in_err-more c =
     let a = c.args in
     let o = c.insert-more in
-    insert-never a.m.now a.slot a.at a.item a.list c.requires.1 o.result o.ensures c.if-n-lt-MAX_LEN.true _ c.in-Refused.is
+    insert-never a.m.now a.slot a.at a.item a.list c.requires.1 o.result o.ensures c.if-n-lt-MAX_LEN.true _ c.in_err-more.was
 
-pub returns-in-Accepted : goal.returns-in-Accepted
-returns-in-Accepted c =
+pub returns-in_ok-more : goal.returns-in_ok-more
+returns-in_ok-more c =
     let a = c.args in
     let o = c.insert-more in
     add-one-done a.m.now a.slot a.at a.item a.list c.requires.1 o.result o.ensures c.if-n-lt-MAX_LEN.true _ _ c.keep.ensures
 
-pub returns-in-Refused-may : goal.returns-in-Refused-may
-returns-in-Refused-may c =
+pub returns-in_err-two : goal.returns-in_err-two
+returns-in_err-two c =
     let a = c.args in
     let o = c.insert_split-two in
-    split-never a.m.now a.slot a.at a.item a.list c.requires.1 c.requires.2 o.result o.ensures c.if-n-lt-MAX_LEN.false _ c.in-Refused-may.is
+    split-never a.m.now a.slot a.at a.item a.list c.requires.1 c.requires.2 o.result o.ensures c.if-n-lt-MAX_LEN.false _ c.in_err-two.was
 
-pub returns-in-Accepted-may : goal.returns-in-Accepted-may
-returns-in-Accepted-may c =
+pub returns-in_ok-two : goal.returns-in_ok-two
+returns-in_ok-two c =
     let a = c.args in
     let o = c.insert_split-two in
     add-two-done a.m.now a.slot a.at a.item a.list c.requires.1 c.requires.2 o.result o.ensures c.if-n-lt-MAX_LEN.false _ _ c.part.ensures

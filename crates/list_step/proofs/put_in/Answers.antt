@@ -1,4 +1,5 @@
 -- `put_in` meets its contract: no such child, counts that are too wide, or the entry written.
+use Rattle.answer.proofs.Opened.{raised}
 use mathlib.Core.Path.{refl}
 use Prim.Native.Nat.{◌<◌}
 use native.Mathlib.Omega.{arith}
@@ -18,24 +19,24 @@ returns-then-n-lt-MIN_LEN c =
     let a = c.args in
     let h : a.idx < len_of a.m.now a.slot = omega (arith, c.requires.1, c.if-n-idx.false) in
     let t = c.total_with in
-    one-small a.m.now a.slot a.idx a.info c.requires.0 h t.result t.ensures _ c.in-Is.is _ c.requires.1 _ (entry-put a.m.now a.slot a.idx a.info c.requires.0 h _ _ c.set_info.ensures) c.if-n-lt-MIN_LEN.true
+    one-small a.m.now a.slot a.idx a.info c.requires.0 h t.result t.ensures _ c.in_ok-all.was _ c.requires.1 _ (entry-put a.m.now a.slot a.idx a.info c.requires.0 h _ _ c.set_info.ensures) c.if-n-lt-MIN_LEN.true
 
-pub returns-in-Refused : goal.returns-in-Refused
-returns-in-Refused c =
+pub returns-in_err-all : goal.returns-in_err-all
+returns-in_err-all c = rw (raised c.from_residual.ensures.1) (
     let a = c.args in
     let h : a.idx < len_of a.m.now a.slot = omega (arith, c.requires.1, c.if-n-idx.false) in
     let t = c.total_with in
-    one-refused-by a.m.now a.slot a.idx a.info c.requires.0 h t.result t.ensures _ _ c.in-Refused.is refl
+    one-refused-by a.m.now a.slot a.idx a.info c.requires.0 h t.result t.ensures _ _ c.in_err-all.was refl)
 
-pub returns-in-Refused-set_info : goal.returns-in-Refused-set_info
-returns-in-Refused-set_info c =
+pub returns-in_err-set_info : goal.returns-in_err-set_info
+returns-in_err-set_info c =
     let a = c.args in
     let h : a.idx < len_of a.m.now a.slot = omega (arith, c.requires.1, c.if-n-idx.false) in
-    entry-never a.m.now a.slot a.idx a.info c.requires.0 h _ _ c.set_info.ensures _ c.in-Refused-set_info.is
+    entry-never a.m.now a.slot a.idx a.info c.requires.0 h _ _ c.set_info.ensures _ c.in_err-set_info.was
 
 pub returns-else-n-lt-MIN_LEN : goal.returns-else-n-lt-MIN_LEN
 returns-else-n-lt-MIN_LEN c =
     let a = c.args in
     let h : a.idx < len_of a.m.now a.slot = omega (arith, c.requires.1, c.if-n-idx.false) in
     let t = c.total_with in
-    one_same a.m.now a.slot a.idx a.info c.requires.0 h t.result t.ensures _ c.in-Is.is _ c.requires.1 _ (entry-put a.m.now a.slot a.idx a.info c.requires.0 h _ _ c.set_info.ensures) c.if-n-lt-MIN_LEN.false
+    one_same a.m.now a.slot a.idx a.info c.requires.0 h t.result t.ensures _ c.in_ok-all.was _ c.requires.1 _ (entry-put a.m.now a.slot a.idx a.info c.requires.0 h _ _ c.set_info.ensures) c.if-n-lt-MIN_LEN.false

@@ -1,4 +1,5 @@
 -- `put_two` meets its contract: no such slot, no such child, or the child added.
+use Rattle.answer.proofs.Opened.{raised}
 use mathlib.Core.Path.{refl}
 use native.Mathlib.Omega.{arith}
 use Rattle.answer.specs.declared.Refusal.TheVariants as Refusal·case
@@ -14,20 +15,20 @@ returns-then-right-gt-LAST_SLOT c =
 pub overflow_add-idx : goal.overflow_add-idx
 overflow_add-idx c =
     let a = c.args in
-    let f = family-ready a.m.now a.slot a.idx a.info c.recounted-family.result c.recounted-family.ensures c.in-Accepted.is in
+    let f = family-ready a.m.now a.slot a.idx a.info c.recounted-family.result c.recounted-family.ensures c.in_ok-family.was in
     omega (arith, f.1, f.2)
 
 pub add-requires : goal.add-requires
 add-requires c =
     let a = c.args in
-    family-ready a.m.now a.slot a.idx a.info c.recounted-family.result c.recounted-family.ensures c.in-Accepted.is
+    family-ready a.m.now a.slot a.idx a.info c.recounted-family.result c.recounted-family.ensures c.in_ok-family.was
 
-pub returns-in-Refused : goal.returns-in-Refused
-returns-in-Refused c =
+pub returns-in_err-family : goal.returns-in_err-family
+returns-in_err-family c = rw (raised c.from_residual.ensures.1) (
     let a = c.args in
-    step-refused _ a.m.now _ _ (two-by a.m.now a.slot a.idx a.info a.right a.other _ c.if-right-gt-LAST_SLOT.false (family-refused a.m.now a.slot a.idx a.info c.recounted-family.result c.recounted-family.ensures _ c.in-Refused.is)) refl
+    step-refused _ a.m.now _ _ (two-by a.m.now a.slot a.idx a.info a.right a.other _ c.if-right-gt-LAST_SLOT.false (family-refused a.m.now a.slot a.idx a.info c.recounted-family.result c.recounted-family.ensures _ c.in_err-family.was)) refl)
 
-pub returns-in-Accepted : goal.returns-in-Accepted
-returns-in-Accepted c =
+pub returns : goal.returns
+returns c =
     let a = c.args in
-    step-as _ a.m.now _ _ _ (two-by a.m.now a.slot a.idx a.info a.right a.other _ c.if-right-gt-LAST_SLOT.false (family-value a.m.now a.slot a.idx a.info c.recounted-family.result c.recounted-family.ensures c.in-Accepted.is)) c.add.ensures
+    step-as _ a.m.now _ _ _ (two-by a.m.now a.slot a.idx a.info a.right a.other _ c.if-right-gt-LAST_SLOT.false (family-value a.m.now a.slot a.idx a.info c.recounted-family.result c.recounted-family.ensures c.in_ok-family.was)) c.add.ensures

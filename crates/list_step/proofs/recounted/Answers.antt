@@ -10,15 +10,15 @@ returns-in_default c =
 pub returns-then-list-idx : goal.returns-then-list-idx
 returns-then-list-idx c =
     let a = c.args in
-    recount-past a.m.now a.slot a.idx a.info c.load-found.result c.load-found.ensures c.in-Accepted.is _ c.if-list-idx.true c.new.ensures
+    recount-past a.m.now a.slot a.idx a.info c.load-found.result c.load-found.ensures c.in-Ok.is _ c.if-list-idx.true c.new.ensures
 
 pub recount-requires : goal.recount-requires
 recount-requires c =
     let a = c.args in
-    let r = recount-ready a.m.now a.slot a.idx a.info c.load-found.result c.load-found.ensures c.in-Accepted.is in
+    let r = recount-ready a.m.now a.slot a.idx a.info c.load-found.result c.load-found.ensures c.in-Ok.is in
     (c.if-list-idx.false, r.0, r.1)
 
 pub returns : goal.returns
 returns c =
     let a = c.args in
-    recount-done a.m.now a.slot a.idx a.info c.load-found.result c.load-found.ensures c.in-Accepted.is _ c.if-list-idx.false c.recount.ensures
+    recount-done a.m.now a.slot a.idx a.info c.load-found.result c.load-found.ensures c.in-Ok.is _ c.if-list-idx.false c.recount.ensures

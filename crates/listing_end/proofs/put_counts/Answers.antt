@@ -13,4 +13,4 @@ returns c =
     let t = c.put_totals in
     let room : a.at + 110 ≤ length a.out.now = c.requires in
     let v = t.ensures.0 room in
-    (v.0, subst (λ (l : List ℕ). Laid a.at l a.out.now t.result t.new.out) (totals-are _ _ _ _ _ _ _ _ c.wide-bytes.ensures.0 c.wide-chars.ensures.0 c.wide.ensures.0 c.wide-lines.ensures.0) v.1)
+    (v.0, subst (λ (l : List ℕ). Laid a.at l a.out.now t.result t.new.out) (totals-are _ _ _ _ _ _ _ _ c.from-bytes.ensures c.from-chars.ensures c.from.ensures c.from-lines.ensures) v.1)

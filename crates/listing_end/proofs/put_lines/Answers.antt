@@ -1,4 +1,5 @@
 -- `put_lines` meets its contract.
+use Rattle.answer.proofs.Opened.{raised}
 use mathlib.Core.Path.{◌≡◌, sym}
 use native.Mathlib.Omega.{arith}
 use lib.ListN.{length}
@@ -12,16 +13,16 @@ slice_bounds-convert_all-end-2 c =
     let same : length put.new.out ≡ length c.args.out.now = put.auto.out in
     sym (length-take-le put.result put.new.out (omega (arith, same, put.ensures.0, c.requires)))
 
-pub returns-in-Refused : goal.returns-in-Refused
-returns-in-Refused c =
+pub returns-in_err-convert_all : goal.returns-in_err-convert_all
+returns-in_err-convert_all c = rw (raised c.from_residual.ensures.1) (
     let a = c.args in
     let put = c.put_places-n in
     let turned = c.convert_all in
-    lined-refused a.m.now a.out.now put.new.out put.result put.ensures.1 _ _ turned.ensures _ c.in-Refused.is _
+    lined-refused a.m.now a.out.now put.new.out put.result put.ensures.1 _ _ turned.ensures _ c.in_err-convert_all.was _)
 
-pub returns-in-Accepted : goal.returns-in-Accepted
-returns-in-Accepted c =
+pub returns : goal.returns
+returns c =
     let a = c.args in
     let put = c.put_places-n in
     let turned = c.convert_all in
-    lined-done a.m.now a.out.now put.new.out put.result put.ensures.1 _ _ turned.ensures c.in-Accepted.is
+    lined-done a.m.now a.out.now put.new.out put.result put.ensures.1 _ _ turned.ensures c.in_ok-convert_all.was

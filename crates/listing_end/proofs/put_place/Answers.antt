@@ -13,4 +13,4 @@ returns-in_default c =
 pub returns : goal.returns
 returns c =
     let a = c.args in
-    (omega arith, laid_one a.n a.out.now _ _ c.requires (sym (ap place_row (mark-live a.m.now a.k _ c.standing_at.ensures _ c.in-Is.is))))
+    (omega arith, laid_one a.n a.out.now _ _ c.requires (sym (ap place_row (mark-live a.m.now a.k _ c.standing_at.ensures _ c.in-Ok.is))))

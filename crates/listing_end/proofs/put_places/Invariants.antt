@@ -1,7 +1,7 @@
 -- `put_places` meets its contract.
 use mathlib.Core.Path.{◌≡◌}
 use mathlib.Core.List.{List}
-use Prim.Native.Nat.{ℕ, ◌-◌, ◌≤◌}
+use Prim.Native.Nat.{ℕ, ◌≤◌}
 use lib.ListN.{length}
 use Rattle.memory.specs.Formed.{note_of}
 use Rattle.listing_lines.specs.Puts.{Laid}
@@ -9,8 +9,5 @@ use Rattle.listing_end.specs.MarkLines.{places}
 use Rattle.listing_end.proofs.Laws.{Rows}
 use Rattle.listing_end.proofs.put_places.Given as goal
 
-abbrev pub invariant-loop-k : goal.invariant-loop-k
-invariant-loop-k l = (l.k ≤ 256) × (l.n ≤ l.k) × (length l.out ≡ length l.initial.out) × ((done : List ℕ) × Laid 0 done l.initial.out l.n l.out × Rows (λ j. places) (note_of l.m).marks l.k done)
-
-abbrev pub decreases-loop-k : goal.decreases-loop-k
-decreases-loop-k l = 256 - l.k
+abbrev pub invariant-loop-mark : goal.invariant-loop-mark
+invariant-loop-mark l = (l.mark ≤ 256) × (l.n ≤ l.mark) × (length l.out ≡ length l.initial.out) × ((done : List ℕ) × Laid 0 done l.initial.out l.n l.out × Rows (λ j. places) (note_of l.m).marks l.mark done)

@@ -22,7 +22,7 @@ pub offset_bounds-lines-j : goal.offset_bounds-lines-j
 offset_bounds-lines-j c =
     let a = c.args in
     let N = note_of a.m.now in
-    let here = mark-live a.m.now a.k _ c.standing_at.ensures _ c.in-Is.is in
+    let here = mark-live a.m.now a.k _ c.standing_at.ensures _ c.in-Ok.is in
     let inside : a.k < length N.marks = omega (arith, marks-256 a.m.now, c.requires.0) in
     let j = due-inside N a.k a.put.count a.lines.now c.requires.1 inside _ here in
     omega (arith, j)
@@ -31,7 +31,7 @@ pub bounds-lines-j : goal.bounds-lines-j
 bounds-lines-j c =
     let a = c.args in
     let N = note_of a.m.now in
-    let here = mark-live a.m.now a.k _ c.standing_at.ensures _ c.in-Is.is in
+    let here = mark-live a.m.now a.k _ c.standing_at.ensures _ c.in-Ok.is in
     let inside : a.k < length N.marks = omega (arith, marks-256 a.m.now, c.requires.0) in
     due-inside N a.k a.put.count a.lines.now c.requires.1 inside _ here
 
@@ -39,7 +39,7 @@ pub overflow_add-result : goal.overflow_add-result
 overflow_add-result c =
     let a = c.args in
     let N = note_of a.m.now in
-    let here = mark-live a.m.now a.k _ c.standing_at.ensures _ c.in-Is.is in
+    let here = mark-live a.m.now a.k _ c.standing_at.ensures _ c.in-Ok.is in
     let inside : a.k < length N.marks = omega (arith, marks-256 a.m.now, c.requires.0) in
     let j = due-inside N a.k a.put.count a.lines.now c.requires.1 inside _ here in
     omega (arith, j)
@@ -48,7 +48,7 @@ pub returns : goal.returns
 returns c =
     let a = c.args in
     let N = note_of a.m.now in
-    let here = mark-live a.m.now a.k _ c.standing_at.ensures _ c.in-Is.is in
+    let here = mark-live a.m.now a.k _ c.standing_at.ensures _ c.in-Ok.is in
     let inside : a.k < length N.marks = omega (arith, marks-256 a.m.now, c.requires.0) in
     let put = c.put_mark-end in
     let room : a.put.end + 80 ≤ length a.out.now = c.requires.2 in
@@ -56,5 +56,5 @@ returns c =
       v.0,
       due-next N a.k a.put.count a.lines.now c.requires.1 inside _ here,
       subst (λ (l : List ℕ). Laid a.put.end l a.out.now put.result put.new.out)
-          (ap (mark_line a.k c.in-Is.p) (due-line N a.k a.put.count a.lines.now c.requires.1 inside _ here) ∙ sym (ap (mark_row N.text a.k) here)) v.1,
+          (ap (mark_line a.k c.in-Ok.p) (due-line N a.k a.put.count a.lines.now c.requires.1 inside _ here) ∙ sym (ap (mark_row N.text a.k) here)) v.1,
     )

@@ -1,7 +1,7 @@
 -- `put_rows` meets its contract.
 use mathlib.Core.Path.{refl, subst, ◌∙◌}
 use mathlib.Core.List.{List, [], ◌++◌}
-use Prim.Native.Nat.{ℕ, ◌+◌, ◌-◌}
+use Prim.Native.Nat.{ℕ}
 use native.Mathlib.Omega.{arith}
 use Rattle.plain_calls.specs.Marks.{mark_of}
 use Rattle.memory.specs.Formed.{note_of}
@@ -16,12 +16,6 @@ loop-k-init c = (omega arith, omega arith, refl, c.requires.0, ([], laid_none c.
 
 pub put_row-put-requires : goal.put_row-put-requires
 put_row-put-requires c = let L = c.loop-k in (omega arith, L.invariant.3, omega (arith, L.invariant.1, L.invariant.2, c.requires.1))
-
-pub overflow_add-k : goal.overflow_add-k
-overflow_add-k c = omega arith
-
-pub loop-k-smaller : goal.loop-k-smaller
-loop-k-smaller c = omega arith
 
 pub loop-k-preserved : goal.loop-k-preserved
 loop-k-preserved c =

@@ -1,7 +1,7 @@
 -- `put_rows` meets its contract.
 use mathlib.Core.Path.{◌≡◌}
 use mathlib.Core.List.{List}
-use Prim.Native.Nat.{ℕ, ◌+◌, ◌-◌, ◌*◌, ◌≤◌}
+use Prim.Native.Nat.{ℕ, ◌+◌, ◌*◌, ◌≤◌}
 use lib.ListN.{length}
 use Rattle.memory.specs.Formed.{note_of}
 use Rattle.plain_journal.specs.Listing.{mark_rows}
@@ -13,6 +13,3 @@ use Rattle.listing_end.proofs.put_rows.Given as goal
 abbrev pub invariant-loop-k : goal.invariant-loop-k
 invariant-loop-k l = (l.k ≤ 256) × (l.put.end ≤ l.at + 80 * l.k) × (length l.out ≡ length l.initial.out) × Due (note_of l.m) l.k l.put.count l.lines
     × ((done : List ℕ) × Laid l.at done l.initial.out l.put.end l.out × Rows (mark_rows (note_of l.m).text) (note_of l.m).marks l.k done)
-
-abbrev pub decreases-loop-k : goal.decreases-loop-k
-decreases-loop-k l = 256 - l.k

@@ -20,14 +20,14 @@ returns-then-k-ge-MARKS c =
     let a = c.args in
     set-8 a.m.now a.p (sym c.check.ensures ∙ not-false _ c.if-not-check.false-raw) _ c.chars_of.ensures.0 (omega arith) _ c.lowest_free-k.ensures (omega arith)
 
-pub returns-in-Refused : goal.returns-in-Refused
-returns-in-Refused c =
+pub returns-in_err-set_at : goal.returns-in_err-set_at
+returns-in_err-set_at c =
     let a = c.args in
     let ok = sym c.check.ensures ∙ not-false _ c.if-not-check.false-raw in
-    set-never a.m.now (long-head a.m.now ok) _ (omega arith) a.p _ _ c.set_at.ensures _ c.in-Refused.is
+    set-never a.m.now (long-head a.m.now ok) _ (omega arith) a.p _ _ c.set_at.ensures _ c.in_err-set_at.was
 
-pub returns-in-Accepted : goal.returns-in-Accepted
-returns-in-Accepted c =
+pub returns : goal.returns
+returns c =
     let a = c.args in
     let ok = sym c.check.ensures ∙ not-false _ c.if-not-check.false-raw in
     set-done a.m.now a.p ok _ c.chars_of.ensures.0 (omega arith) _ c.lowest_free-k.ensures (omega arith) (omega arith) _

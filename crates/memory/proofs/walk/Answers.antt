@@ -1,19 +1,16 @@
 -- `walk` meets its contract: by what `Walking` keeps.
 use mathlib.Core.Path.{refl, sym, ap, subst, ◌∙◌}
-use Prim.Native.Nat.{◌-◌}
+use Prim.Native.Nat.{ℕ, ◌-◌}
 use native.Mathlib.Omega.{arith}
 use lib.ListN.{length}
 use Rattle.plain_note.specs.Note.{need}
-use Rattle.memory.specs.declared.Step.{Step}
+use Rattle.std.specs.Prelude.{Option}
 use Rattle.memory.specs.Checks.{Stepped, Took}
 use Rattle.memory.proofs.Walking.{walk_start, walk-on, walk-row, walk-there, walk-stuck, walk-done}
 use Rattle.memory.proofs.walk.Goals as goal
 
 pub loop-left-init : goal.loop-left-init
 loop-left-init c = let a = c.args in walk_start a.m.now (length a.seen.now) a.first a.seen.now refl
-
-pub shape_of-seen-then-at-n : goal.shape_of-seen-then-at-n
-shape_of-seen-then-at-n c = c.loop-left.invariant.size
 
 pub returns-then-at-n : goal.returns-then-at-n
 returns-then-at-n c =
@@ -34,7 +31,7 @@ returns-in_default c =
     let k = c.take_free in
     let a = c.args in
     walk-stuck a.m.now (length a.seen.now) a.first a.seen.now c.loop-left.seen c.loop-left.left c.loop-left.at c.loop-left.invariant (omega arith) c.if-at-n.false
-    (subst (λ (r : Step). Stepped a.m.now c.loop-left.seen k.new.seen c.loop-left.at r) c.in_default.is k.ensures)
+    (subst (λ (r : Option ℕ). Stepped a.m.now c.loop-left.seen k.new.seen c.loop-left.at r) c.in_default.is k.ensures)
 
 pub take_row-k-requires : goal.take_row-k-requires
 take_row-k-requires c =
@@ -47,14 +44,11 @@ loop-left-preserved c =
     let r = c.take_row-k in
     let k = c.take_free in
     let a = c.args in
-    let t : Took a.m.now c.loop-left.seen k.new.seen c.loop-left.at c.in-To.next =
-    subst (λ (r : Step). Stepped a.m.now c.loop-left.seen k.new.seen c.loop-left.at r) c.in-To.is k.ensures in
-    let one = walk-on a.m.now (length a.seen.now) a.first a.seen.now c.loop-left.seen k.new.seen c.loop-left.left c.loop-left.at c.in-To.next c.loop-left.invariant (omega arith) t in
-    walk-row a.m.now (length a.seen.now) a.first a.seen.now k.new.seen (c.loop-left.left - 1) c.in-To.next one r.result r.new.seen
+    let t : Took a.m.now c.loop-left.seen k.new.seen c.loop-left.at c.in-Some.next =
+    subst (λ (r : Option ℕ). Stepped a.m.now c.loop-left.seen k.new.seen c.loop-left.at r) c.in-Some.is k.ensures in
+    let one = walk-on a.m.now (length a.seen.now) a.first a.seen.now c.loop-left.seen k.new.seen c.loop-left.left c.loop-left.at c.in-Some.next c.loop-left.invariant (omega arith) t in
+    walk-row a.m.now (length a.seen.now) a.first a.seen.now k.new.seen (c.loop-left.left - 1) c.in-Some.next one r.result r.new.seen
     (omega (arith, r.ensures.0, c.row_most.ensures.0)) r.ensures.1
-
-pub shape_of-seen : goal.shape_of-seen
-shape_of-seen c = c.loop-left.invariant.size
 
 pub returns : goal.returns
 returns c =

@@ -1,5 +1,4 @@
 -- `walk` meets its contract: by what `Walking` keeps.
-use Prim.Native.Nat.{◌-◌}
 use Rattle.memory.proofs.Walking.{Walking}
 use Rattle.memory.proofs.walk.Given as goal
 

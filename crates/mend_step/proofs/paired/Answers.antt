@@ -11,14 +11,14 @@ returns-in_default c =
 pub returns-then-n-idx : goal.returns-then-n-idx
 returns-then-n-idx c =
     let a = c.args in
-    none-behind a.m.now a.slot a.idx c.load-found.result c.load-found.ensures c.in-Accepted.is _ (omega (arith, c.if-n-idx.true)) c.new.ensures
+    none-behind a.m.now a.slot a.idx c.load-found.result c.load-found.ensures c.in-Ok.is _ (omega (arith, c.if-n-idx.true)) c.new.ensures
 
 pub returns-then-n-idx-2 : goal.returns-then-n-idx-2
 returns-then-n-idx-2 c =
     let a = c.args in
-    none-behind a.m.now a.slot a.idx c.load-found.result c.load-found.ensures c.in-Accepted.is _ c.if-n-idx-2.true c.new-then-n-idx-2.ensures
+    none-behind a.m.now a.slot a.idx c.load-found.result c.load-found.ensures c.in-Ok.is _ c.if-n-idx-2.true c.new-then-n-idx-2.ensures
 
 pub returns : goal.returns
 returns c =
     let a = c.args in
-    one-behind a.m.now a.slot a.idx c.load-found.result c.load-found.ensures c.in-Accepted.is c.if-n-idx-2.false
+    one-behind a.m.now a.slot a.idx c.load-found.result c.load-found.ensures c.in-Ok.is c.if-n-idx-2.false

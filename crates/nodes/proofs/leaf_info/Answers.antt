@@ -8,16 +8,16 @@ use Rattle.nodes.proofs.Laid.{region-there, text-lent}
 use Rattle.nodes.proofs.leaf_info.Goals as goal
 
 pub overflow_add-at : goal.overflow_add-at
-overflow_add-at c = let a = c.args in omega (arith, region-opened c.region_start.result a.m.now a.slot _ c.region_start.ensures c.in-Is.is)
+overflow_add-at c = let a = c.args in omega (arith, region-opened c.region_start.result a.m.now a.slot _ c.region_start.ensures c.in_ok-at.was)
 
-pub returns-in-Refused : goal.returns-in-Refused
-returns-in-Refused c = let a = c.args in absurd (region-there c.region_start.result a.m.now a.slot _ c.region_start.ensures c.in-Refused.is (inside a.m.now a.slot c.requires.0))
+pub returns-in_err-at : goal.returns-in_err-at
+returns-in_err-at c = let a = c.args in absurd (region-there c.region_start.result a.m.now a.slot _ c.region_start.ensures c.in_err-at.was (inside a.m.now a.slot c.requires.0))
 
-pub returns-in-Is : goal.returns-in-Is
-returns-in-Is c =
+pub returns : goal.returns
+returns c =
     let a = c.args in
-    let o = region-opened c.region_start.result a.m.now a.slot _ c.region_start.ensures c.in-Is.is in
+    let o = region-opened c.region_start.result a.m.now a.slot _ c.region_start.ensures c.in_ok-at.was in
     c.from_str.ensures ∙ ap leaf_info (text-lent a.m.now a.slot _ a.n o.1 c.requires.1)
 
 pub slice_bounds-from_str-end : goal.slice_bounds-from_str-end
-slice_bounds-from_str-end c = let a = c.args in omega (arith, region-opened c.region_start.result a.m.now a.slot _ c.region_start.ensures c.in-Is.is)
+slice_bounds-from_str-end c = let a = c.args in omega (arith, region-opened c.region_start.result a.m.now a.slot _ c.region_start.ensures c.in_ok-at.was)

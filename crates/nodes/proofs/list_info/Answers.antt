@@ -12,10 +12,10 @@ pub returns-then-list-gt-MAX_CHILDREN : goal.returns-then-list-gt-MAX_CHILDREN
 returns-then-list-gt-MAX_CHILDREN c =
     let i = c.narrow-all in
     let s = c.sum_of in
-    sum-long c.args.list s.result s.ensures.0 i.result i.ensures _ c.in-Is.is c.if-list-gt-MAX_CHILDREN.true
+    sum-long c.args.list s.result s.ensures.0 i.result i.ensures _ c.in-Ok.is c.if-list-gt-MAX_CHILDREN.true
 
 pub returns : goal.returns
 returns c =
     let i = c.narrow-all in
     let s = c.sum_of in
-    sum_is c.args.list s.result s.ensures.0 i.result i.ensures _ c.in-Is.is c.if-list-gt-MAX_CHILDREN.false
+    sum_is c.args.list s.result s.ensures.0 i.result i.ensures _ c.in-Ok.is c.if-list-gt-MAX_CHILDREN.false

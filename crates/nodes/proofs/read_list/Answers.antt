@@ -1,6 +1,6 @@
 -- `read_list` meets its contract: each turn reads one entry and sets it behind the others.
 use mathlib.Core.Path.{◌≡◌, refl, ap, ◌∙◌}
-use Prim.Native.Nat.{ℕ, ◌-◌}
+use Prim.Native.Nat.{ℕ}
 use native.Mathlib.Omega.{arith}
 use mathlib.Core.List.{[]}
 use lib.ListN.{take}
@@ -16,12 +16,12 @@ use Rattle.nodes.proofs.read_list.Goals as goal
 pub loop-i-init : goal.loop-i-init
 loop-i-init c = (omega arith, c.new-list.ensures)
 
-pub returns-in-Refused : goal.returns-in-Refused
-returns-in-Refused c =
+pub returns-in-Err : goal.returns-in-Err
+returns-in-Err c =
     let a = c.args in
     let p = c.requires in
     let k = c.kid_of in
-    absurd (entry-there k.result a.m.now a.slot _ _ k.ensures c.in-Refused.is (inside a.m.now a.slot p.0) (omega arith))
+    absurd (entry-there k.result a.m.now a.slot _ _ k.ensures c.in-Err.is (inside a.m.now a.slot p.0) (omega arith))
 
 pub offset_bounds-list-i : goal.offset_bounds-list-i
 offset_bounds-list-i c = omega arith
@@ -39,7 +39,7 @@ pub loop-i-preserved : goal.loop-i-preserved
 loop-i-preserved c =
     let a = c.args in
     let l = c.loop-i in
-    let o = entry-opened c.kid_of.result a.m.now a.slot l.i _ c.kid_of.ensures c.in-Is.is in
+    let o = entry-opened c.kid_of.result a.m.now a.slot l.i _ c.kid_of.ensures c.in-Ok.is in
     (omega arith, read-turn l.list (entries (region_of a.m.now a.slot)) l.i _ (entries-length (region_of a.m.now a.slot)) o.1 l.invariant.1 o.2)
 
 pub returns : goal.returns

@@ -1,8 +1,7 @@
 -- `write_entries` meets its contract: each turn writes the next entry.
 use mathlib.Core.Path.{refl, ap, ◌∙◌}
-use Prim.Native.Nat.{◌-◌}
 use native.Mathlib.Omega.{arith}
-use lib.ListN.{length, get_or, length-map}
+use lib.ListN.{length, get_or}
 use Rattle.pool.specs.Slot.{no_kid}
 use Rattle.pool.proofs.Opened.{wrote-never}
 use Rattle.pool.proofs.Slots.{kid-size}
@@ -19,13 +18,13 @@ offset_bounds-list-i c = omega arith
 pub bounds-list-i : goal.bounds-list-i
 bounds-list-i c = omega arith
 
-pub returns-in_default : goal.returns-in_default
-returns-in_default c =
+pub returns-in_err-set_kid : goal.returns-in_err-set_kid
+returns-in_err-set_kid c =
     let a = c.args in
     let l = c.loop-i in
-    let s = c.set_kid-done in
+    let s = c.set_kid in
     let h = inside a.m.now a.slot c.requires in
-    wrote-never _ _ s.result _ s.ensures.0 _ (kid_is l.m a.slot l.i (get_or a.list.arr l.i no_kid) (omega arith) (omega arith)) _ c.in_default.is
+    wrote-never _ _ s.result _ s.ensures.0 _ (kid_is l.m a.slot l.i (get_or a.list.arr l.i no_kid) (omega arith) (omega arith)) _ c.in_err-set_kid.was
 
 pub overflow_add-i : goal.overflow_add-i
 overflow_add-i c = omega arith
@@ -37,7 +36,7 @@ pub loop-i-preserved : goal.loop-i-preserved
 loop-i-preserved c =
     let a = c.args in
     let l = c.loop-i in
-    let s = c.set_kid-done in
+    let s = c.set_kid in
     let k = get_or a.list.arr l.i no_kid in
     let h = inside a.m.now a.slot c.requires in
     let e = kid-set l.m a.slot l.i k s.result _ s.ensures.0 (omega arith) (omega arith) in

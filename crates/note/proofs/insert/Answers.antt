@@ -14,21 +14,21 @@ returns-in_default c =
 pub returns-then-piece-eq0 : goal.returns-then-piece-eq0
 returns-then-piece-eq0 c =
     let a = c.args in
-    insert-idle a.m.now a.p a.piece.now _ _ c.insert-done.ensures _ c.in-By.is (none a.piece.now (omega arith))
+    insert-idle a.m.now a.p a.piece.now _ _ c.insert-done.ensures _ c.in-Ok.is (none a.piece.now (omega arith))
 
 pub overflow_cast-count : goal.overflow_cast-count
 overflow_cast-count c =
     let a = c.args in
-    omega (arith, c.count.ensures, count-le is_start a.piece.now, insert-short a.m.now a.p a.piece.now _ _ c.insert-done.ensures _ c.in-By.is)
+    omega (arith, c.count.ensures, count-le is_start a.piece.now, insert-short a.m.now a.p a.piece.now _ _ c.insert-done.ensures _ c.in-Ok.is)
 
-pub returns-in-Refused : goal.returns-in-Refused
-returns-in-Refused c =
+pub returns-in_err-follow : goal.returns-in_err-follow
+returns-in_err-follow c =
     let a = c.args in
-    follow-never a.m.now _ _ c.insert-done.ensures c.in-By.is a.p a.p _ _ _ c.follow.ensures _ c.in-Refused.is
+    follow-never a.m.now _ _ c.insert-done.ensures c.in-Ok.is a.p a.p _ _ _ c.follow.ensures _ c.in_err-follow.was
 
-pub returns-in-Accepted : goal.returns-in-Accepted
-returns-in-Accepted c =
+pub returns : goal.returns
+returns c =
     let a = c.args in
     let w = c.insert-done.ensures in
-    insert-busy a.m.now a.p a.piece.now _ _ w _ c.in-By.is (omega arith) _ c.count.ensures _
-    (follow-there a.m.now _ _ w c.in-By.is a.p a.p _ _ _ c.follow.ensures)
+    insert-busy a.m.now a.p a.piece.now _ _ w _ c.in-Ok.is (omega arith) _ c.count.ensures _
+    (follow-there a.m.now _ _ w c.in-Ok.is a.p a.p _ _ _ c.follow.ensures)

@@ -12,16 +12,16 @@ returns-in_default c =
 pub returns-then-s-e : goal.returns-then-s-e
 returns-then-s-e c =
     let a = c.args in
-    remove-idle a.m.now a.s a.e _ _ c.remove-done.ensures _ c.in-By.is (omega arith)
+    remove-idle a.m.now a.s a.e _ _ c.remove-done.ensures _ c.in-Ok.is (omega arith)
 
-pub returns-in-Refused : goal.returns-in-Refused
-returns-in-Refused c =
+pub returns-in_err-follow : goal.returns-in_err-follow
+returns-in_err-follow c =
     let a = c.args in
-    follow-never a.m.now _ _ c.remove-done.ensures c.in-By.is a.s a.e _ _ _ c.follow.ensures _ c.in-Refused.is
+    follow-never a.m.now _ _ c.remove-done.ensures c.in-Ok.is a.s a.e _ _ _ c.follow.ensures _ c.in_err-follow.was
 
-pub returns-in-Accepted : goal.returns-in-Accepted
-returns-in-Accepted c =
+pub returns : goal.returns
+returns c =
     let a = c.args in
     let w = c.remove-done.ensures in
-    remove-busy a.m.now a.s a.e _ _ w _ c.in-By.is (λ z. omega arith) _
-    (follow-there a.m.now _ _ w c.in-By.is a.s a.e _ _ _ c.follow.ensures)
+    remove-busy a.m.now a.s a.e _ _ w _ c.in-Ok.is (λ z. omega arith) _
+    (follow-there a.m.now _ _ w c.in-Ok.is a.s a.e _ _ _ c.follow.ensures)

@@ -1,27 +1,14 @@
 -- `any_past` meets its contract.
-use mathlib.Core.Path.{refl}
-use Prim.Native.Nat.{◌-◌}
-use native.Mathlib.Omega.{arith}
-use Rattle.note_counts.proofs.Several.{past-here, past_next, past-none}
+use mathlib.Core.Path.{◌∙◌}
+use Rattle.std.proofs.Common.{rules}
+use Rattle.std.proofs.lemmas.Iterator.{YieldsList-from_slice}
+use Rattle.std.proofs.lemmas.Iterator.Search.{any_from_yields_List}
+use borrow.Author.Tests.{tests}
+use Rattle.plain.specs.Outcome.{past}
+use Rattle.note_counts.proofs.Several.{any-listed}
 use Rattle.note_counts.proofs.any_past.Goals as goal
 
-pub loop-k-init : goal.loop-k-init
-loop-k-init c = (omega arith, refl)
-
-pub bounds-indices-k : goal.bounds-indices-k
-bounds-indices-k c = omega arith
-
-pub returns-then-highest-indices : goal.returns-then-highest-indices
-returns-then-highest-indices c = let s = c.args in let L = c.loop-k in past-here s.highest s.indices.now L.k (omega arith) (omega arith) c.loop-k.invariant.1
-
-pub overflow_add-k : goal.overflow_add-k
-overflow_add-k c = omega arith
-
-pub loop-k-smaller : goal.loop-k-smaller
-loop-k-smaller c = omega arith
-
-pub loop-k-preserved : goal.loop-k-preserved
-loop-k-preserved c = let s = c.args in let L = c.loop-k in (omega arith, past_next s.highest s.indices.now L.k (omega arith) (omega arith) c.loop-k.invariant.1)
-
 pub returns : goal.returns
-returns c = let s = c.args in let L = c.loop-k in past-none s.highest s.indices.now L.k (omega arith) c.loop-k.invariant.1
+returns c =
+    let a = c.args in
+    any_from_yields_List (λ i. past i a.highest) _ _ _ c.any.ensures.ran (YieldsList-from_slice a.indices.now c.iter.ensures.rest) (λ x b q k. search (rules, tests)) ∙ any-listed a.highest a.indices.now

@@ -1,28 +1,27 @@
 -- `turn_all` meets its contract.
 use mathlib.Core.Path.{refl}
-use Prim.Native.Nat.{◌-◌}
 use native.Mathlib.Omega.{arith}
-use Rattle.answer.proofs.Opened.{verdict-never}
+use Rattle.answer.proofs.Opened.{never-refused}
 use Rattle.note_counts.proofs.Several.{turning-start, turning-next, turning-end, still, each_within}
 use Rattle.note_counts.proofs.turn_all.Goals as goal
 
 pub loop-k-init : goal.loop-k-init
 loop-k-init c = (omega arith, turning-start _ _)
 
-pub turn_at-done-requires : goal.turn_at-done-requires
-turn_at-done-requires c =
+pub turn_at-requires : goal.turn_at-requires
+turn_at-requires c =
     let L = c.loop-k in
     let t = L.invariant.1 in
     (c.requires.0, omega arith, omega (arith, still _ _ L.k _ t (omega arith), each_within _ _ c.requires.1 L.k (omega (arith, t.long))))
 
-pub returns-in_default : goal.returns-in_default
-returns-in_default c = verdict-never _ _ c.turn_at-done.ensures.0 c.in_default.is
+pub returns-in_err-turn_at : goal.returns-in_err-turn_at
+returns-in_err-turn_at c = never-refused _ _ tt c.turn_at.ensures.0 c.in_err-turn_at.was
 
 pub loop-k-preserved : goal.loop-k-preserved
 loop-k-preserved c =
     let L = c.loop-k in
     let t = L.invariant.1 in
-    let n = turning-next _ _ L.k _ t (omega arith) _ c.turn_at-done.ensures.1 in
+    let n = turning-next _ _ L.k _ t (omega arith) _ c.turn_at.ensures.1 in
     (omega (arith, n.long, t.long), n)
 
 pub shape_of-indices : goal.shape_of-indices

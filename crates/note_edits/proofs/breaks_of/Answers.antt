@@ -4,4 +4,4 @@ use Rattle.pool.specs.declared.Kid.{Kid}
 use Rattle.note_edits.proofs.breaks_of.Goals as goal
 
 pub returns : goal.returns
-returns c = ap (λ (k : Kid). k.info.line_breaks) c.root-kid.ensures
+returns c = ap (λ (k : Kid). k.info.line_breaks) c.root.ensures

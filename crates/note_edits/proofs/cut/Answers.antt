@@ -14,28 +14,25 @@ loop-end-init c = (c.requires.low, omega arith, cut-starts c.args.m.now c.args.s
 pub overflow_sub-end : goal.overflow_sub-end
 overflow_sub-end c = c.loop-end.invariant.0
 
-pub shape_of-m-in-Refused : goal.shape_of-m-in-Refused
-shape_of-m-in-Refused c = turn-refused c.args.m.now c.args.s c.args.e c.requires c.loop-end.end c.loop-end.invariant.0 c.loop-end.invariant.1 c.loop-end.m c.loop-end.invariant.2 c.loop-end-test.true _ _ c.take_out.ensures _ c.in-Refused.is
+pub returns-in_err-end : goal.returns-in_err-end
+returns-in_err-end c = turn-refused c.args.m.now c.args.s c.args.e c.requires c.loop-end.end c.loop-end.invariant.0 c.loop-end.invariant.1 c.loop-end.m c.loop-end.invariant.2 c.loop-end-test.true _ _ c.take_out.ensures _ c.in_err-end.was
 
-pub returns-in-Refused : goal.returns-in-Refused
-returns-in-Refused c = turn-refused c.args.m.now c.args.s c.args.e c.requires c.loop-end.end c.loop-end.invariant.0 c.loop-end.invariant.1 c.loop-end.m c.loop-end.invariant.2 c.loop-end-test.true _ _ c.take_out.ensures _ c.in-Refused.is
-
-pub overflow_sub-end-in-Is : goal.overflow_sub-end-in-Is
-overflow_sub-end-in-Is c =
-    let x = turn-some c.args.m.now c.args.s c.args.e c.requires c.loop-end.end c.loop-end.invariant.0 c.loop-end.invariant.1 c.loop-end.m c.loop-end.invariant.2 c.loop-end-test.true _ _ c.take_out.ensures _ c.in-Is.is in
+pub overflow_sub-end-in-loop-end : goal.overflow_sub-end-in-loop-end
+overflow_sub-end-in-loop-end c =
+    let x = turn-some c.args.m.now c.args.s c.args.e c.requires c.loop-end.end c.loop-end.invariant.0 c.loop-end.invariant.1 c.loop-end.m c.loop-end.invariant.2 c.loop-end-test.true _ _ c.take_out.ensures _ c.in_ok-end.was in
     omega (arith, x.1)
 
 pub loop-end-smaller : goal.loop-end-smaller
 loop-end-smaller c =
-    let x = turn-some c.args.m.now c.args.s c.args.e c.requires c.loop-end.end c.loop-end.invariant.0 c.loop-end.invariant.1 c.loop-end.m c.loop-end.invariant.2 c.loop-end-test.true _ _ c.take_out.ensures _ c.in-Is.is in
+    let x = turn-some c.args.m.now c.args.s c.args.e c.requires c.loop-end.end c.loop-end.invariant.0 c.loop-end.invariant.1 c.loop-end.m c.loop-end.invariant.2 c.loop-end-test.true _ _ c.take_out.ensures _ c.in_ok-end.was in
     omega (arith, x.0, x.1)
 
 pub loop-end-preserved : goal.loop-end-preserved
 loop-end-preserved c =
-    let x = turn-some c.args.m.now c.args.s c.args.e c.requires c.loop-end.end c.loop-end.invariant.0 c.loop-end.invariant.1 c.loop-end.m c.loop-end.invariant.2 c.loop-end-test.true _ _ c.take_out.ensures _ c.in-Is.is in (
+    let x = turn-some c.args.m.now c.args.s c.args.e c.requires c.loop-end.end c.loop-end.invariant.0 c.loop-end.invariant.1 c.loop-end.m c.loop-end.invariant.2 c.loop-end-test.true _ _ c.take_out.ensures _ c.in_ok-end.was in (
       omega (arith, x.1, c.loop-end.invariant.0),
       omega (arith, c.loop-end.invariant.1),
-      turn-left c.args.m.now c.args.s c.args.e c.requires c.loop-end.end c.loop-end.invariant.0 c.loop-end.invariant.1 c.loop-end.m c.loop-end.invariant.2 c.loop-end-test.true _ _ c.take_out.ensures _ c.in-Is.is,
+      turn-left c.args.m.now c.args.s c.args.e c.requires c.loop-end.end c.loop-end.invariant.0 c.loop-end.invariant.1 c.loop-end.m c.loop-end.invariant.2 c.loop-end-test.true _ _ c.take_out.ensures _ c.in_ok-end.was,
     )
 
 pub shape_of-m : goal.shape_of-m

@@ -19,20 +19,20 @@ inside-requires c = (c.requires, inr refl)
 pub returns-then-done : goal.returns-then-done
 returns-then-done c = (
   refl,
-  inside-put c.args.m.now c.args.p c.args.piece.now _ (was-done c.args.m.now _ _ _ c.inside.ensures _ c.in-Is.is c.if-done.true),
+  inside-put c.args.m.now c.args.p c.args.piece.now _ (was-done c.args.m.now _ _ _ c.inside.ensures _ c.in_ok-done.was c.if-done.true),
   λ e. absurd (c.if-piece-eq0.false (ap (λ (l : List ℕ). length l) e)),
 )
 
 pub insert_beside-requires : goal.insert_beside-requires
 insert_beside-requires c =
-    subst (λ (l : List ℕ). Puts l c.args.p c.args.piece.now) (sym (was-not c.args.m.now _ _ _ c.inside.ensures _ c.in-Is.is c.if-done.false)) c.requires
+    subst (λ (l : List ℕ). Puts l c.args.p c.args.piece.now) (sym (was-not c.args.m.now _ _ _ c.inside.ensures _ c.in_ok-done.was c.if-done.false)) c.requires
 
-pub returns-in-Refused : goal.returns-in-Refused
-returns-in-Refused c = tried-never c.args.m.now _ _ _ c.inside.ensures _ c.in-Refused.is
+pub returns-in_err-done : goal.returns-in_err-done
+returns-in_err-done c = tried-never c.args.m.now _ _ _ c.inside.ensures _ c.in_err-done.was
 
-pub returns-else-done : goal.returns-else-done
-returns-else-done c = (
+pub returns : goal.returns
+returns c = (
   c.insert_beside.ensures.0,
-  turned-again c.args.m.now _ (was-not c.args.m.now _ _ _ c.inside.ensures _ c.in-Is.is c.if-done.false) (λ cs. put_in c.args.p (decode c.args.piece.now) cs) _ c.insert_beside.ensures.1,
+  turned-again c.args.m.now _ (was-not c.args.m.now _ _ _ c.inside.ensures _ c.in_ok-done.was c.if-done.false) (λ cs. put_in c.args.p (decode c.args.piece.now) cs) _ c.insert_beside.ensures.1,
   λ e. absurd (c.if-piece-eq0.false (ap (λ (l : List ℕ). length l) e)),
 )

@@ -15,35 +15,35 @@ cut-requires c = plain-cuts c.args.m.now c.args.s c.args.e c.requires.0 (sym c.a
 pub returns-then-not-at_lf : goal.returns-then-not-at_lf
 returns-then-not-at_lf c = c.cut.ensures
 
-pub insert_own-put-requires : goal.insert_own-put-requires
-insert_own-put-requires c = guard-puts c.args.m.now c.args.s c.args.e c.requires.0
+pub insert_own-requires : goal.insert_own-requires
+insert_own-requires c = guard-puts c.args.m.now c.args.s c.args.e c.requires.0
 
-pub returns-in_default : goal.returns-in_default
-returns-in_default c = never _ c.insert_own-put.ensures.0 _ c.in_default.is
+pub returns-in_err-insert_own : goal.returns-in_err-insert_own
+returns-in_err-insert_own c = never _ c.insert_own.ensures.0 _ c.in_err-insert_own.was
 
 pub behind_cr-requires : goal.behind_cr-requires
-behind_cr-requires c = (c.insert_own-put.ensures.1.holds, guard-here c.args.m.now c.args.s c.args.e c.requires.0 _ c.insert_own-put.ensures.1)
+behind_cr-requires c = (c.insert_own.ensures.1.holds, guard-here c.args.m.now c.args.s c.args.e c.requires.0 _ c.insert_own.ensures.1)
 
 pub overflow_sub-s : goal.overflow_sub-s
-overflow_sub-s c = cr-one c.args.m.now c.args.s c.args.e c.requires.0 _ c.insert_own-put.ensures.1 (sym c.behind_cr.ensures ∙ c.if-behind_cr.true)
+overflow_sub-s c = cr-one c.args.m.now c.args.s c.args.e c.requires.0 _ c.insert_own.ensures.1 (sym c.behind_cr.ensures ∙ c.if-behind_cr.true)
 
 pub cut-requires-then-behind_cr : goal.cut-requires-then-behind_cr
-cut-requires-then-behind_cr c = cr-cuts c.args.m.now c.args.s c.args.e c.requires.0 _ c.insert_own-put.ensures.1 (sym c.behind_cr.ensures ∙ c.if-behind_cr.true)
+cut-requires-then-behind_cr c = cr-cuts c.args.m.now c.args.s c.args.e c.requires.0 _ c.insert_own.ensures.1 (sym c.behind_cr.ensures ∙ c.if-behind_cr.true)
 
 pub returns-then-behind_cr : goal.returns-then-behind_cr
-returns-then-behind_cr c = (c.cut-then-behind_cr.ensures.0, cr-done c.args.m.now c.args.s c.args.e c.requires.0 _ c.insert_own-put.ensures.1 (sym c.behind_cr.ensures ∙ c.if-behind_cr.true) _ c.cut-then-behind_cr.ensures.1)
+returns-then-behind_cr c = (c.cut-then-behind_cr.ensures.0, cr-done c.args.m.now c.args.s c.args.e c.requires.0 _ c.insert_own.ensures.1 (sym c.behind_cr.ensures ∙ c.if-behind_cr.true) _ c.cut-then-behind_cr.ensures.1)
 
-pub cut-left-requires : goal.cut-left-requires
-cut-left-requires c = rest-cuts c.args.m.now c.args.s c.args.e c.requires.0 _ c.insert_own-put.ensures.1 (sym c.behind_cr.ensures ∙ c.if-behind_cr.false)
+pub cut-requires-2 : goal.cut-requires-2
+cut-requires-2 c = rest-cuts c.args.m.now c.args.s c.args.e c.requires.0 _ c.insert_own.ensures.1 (sym c.behind_cr.ensures ∙ c.if-behind_cr.false)
 
-pub returns-in_default-left : goal.returns-in_default-left
-returns-in_default-left c = never _ c.cut-left.ensures.0 _ c.in_default-left.is
+pub returns-in_err-cut : goal.returns-in_err-cut
+returns-in_err-cut c = never _ c.cut-2.ensures.0 _ c.in_err-cut.was
 
 pub overflow_add-s : goal.overflow_add-s
 overflow_add-s c = record { fits = omega (arith, c.requires.1, c.ranges.e.fits) }
 
-pub cut-requires-2 : goal.cut-requires-2
-cut-requires-2 c = last-cuts c.args.m.now c.args.s c.args.e c.requires.0 _ c.insert_own-put.ensures.1 (sym c.behind_cr.ensures ∙ c.if-behind_cr.false) _ c.cut-left.ensures.1
+pub cut-requires-3 : goal.cut-requires-3
+cut-requires-3 c = last-cuts c.args.m.now c.args.s c.args.e c.requires.0 _ c.insert_own.ensures.1 (sym c.behind_cr.ensures ∙ c.if-behind_cr.false) _ c.cut-2.ensures.1
 
 pub returns : goal.returns
-returns c = (c.cut-2.ensures.0, last_done c.args.m.now c.args.s c.args.e c.requires.0 _ c.insert_own-put.ensures.1 (sym c.behind_cr.ensures ∙ c.if-behind_cr.false) _ c.cut-left.ensures.1 _ c.cut-2.ensures.1)
+returns c = (c.cut-3.ensures.0, last_done c.args.m.now c.args.s c.args.e c.requires.0 _ c.insert_own.ensures.1 (sym c.behind_cr.ensures ∙ c.if-behind_cr.false) _ c.cut-2.ensures.1 _ c.cut-3.ensures.1)

@@ -18,22 +18,22 @@ inside-requires c = (cut-puts c.args.m.now c.args.s c.args.e c.requires, inl ref
 pub returns-then-done : goal.returns-then-done
 returns-then-done c = (
   refl,
-  inside-cut c.args.m.now c.args.s c.args.e c.requires.low _ (was-done c.args.m.now _ _ _ c.inside.ensures _ c.in-Is.is c.if-done.true),
+  inside-cut c.args.m.now c.args.s c.args.e c.requires.low _ (was-done c.args.m.now _ _ _ c.inside.ensures _ c.in_ok-done.was c.if-done.true),
   λ e. absurd (c.if-s-e.false e),
 )
 
 pub remove_over-requires : goal.remove_over-requires
 remove_over-requires c = (
-  subst (λ (l : List ℕ). Removes l c.args.s c.args.e) (sym (was-not c.args.m.now _ _ _ c.inside.ensures _ c.in-Is.is c.if-done.false)) c.requires,
+  subst (λ (l : List ℕ). Removes l c.args.s c.args.e) (sym (was-not c.args.m.now _ _ _ c.inside.ensures _ c.in_ok-done.was c.if-done.false)) c.requires,
   strict c.args.s c.args.e c.requires.low c.if-s-e.false,
 )
 
-pub returns-in-Refused : goal.returns-in-Refused
-returns-in-Refused c = tried-never c.args.m.now _ _ _ c.inside.ensures _ c.in-Refused.is
+pub returns-in_err-done : goal.returns-in_err-done
+returns-in_err-done c = tried-never c.args.m.now _ _ _ c.inside.ensures _ c.in_err-done.was
 
-pub returns-else-done : goal.returns-else-done
-returns-else-done c = (
+pub returns : goal.returns
+returns c = (
   c.remove_over.ensures.0,
-  turned-again c.args.m.now _ (was-not c.args.m.now _ _ _ c.inside.ensures _ c.in-Is.is c.if-done.false) (λ cs. cut_out c.args.s c.args.e cs) _ c.remove_over.ensures.1,
+  turned-again c.args.m.now _ (was-not c.args.m.now _ _ _ c.inside.ensures _ c.in_ok-done.was c.if-done.false) (λ cs. cut_out c.args.s c.args.e cs) _ c.remove_over.ensures.1,
   λ e. absurd (c.if-s-e.false e),
 )

@@ -10,4 +10,4 @@ returns-then-m-at c = (sym (two_past c.args.m.now c.args.at (omega arith)), omeg
 
 pub returns : goal.returns
 unfolding two_at
-returns c = (omega (arith, c.wide-2.ensures, c.byte_at-2.ensures, c.wide.ensures, c.byte_at.ensures), omega (arith, c.wide-2.ensures, c.wide.ensures))
+returns c = (omega (arith, c.from-2.ensures, c.byte_at-2.ensures, c.from.ensures, c.byte_at.ensures), omega arith)

@@ -6,14 +6,14 @@ use Rattle.note_head.proofs.Laid.{number-it}
 use Rattle.opening.proofs.Laid.{head-laid}
 use Rattle.opening.proofs.put_head.Goals as goal
 
-pub returns-in_default : goal.returns-in_default
-returns-in_default c =
-    wrote-never _ _ _ _ c.set_slots-slots.ensures _ (number-it c.args.m.now c.requires 0 c.args.n) _ c.in_default.is
+pub returns-in_err-set_slots : goal.returns-in_err-set_slots
+returns-in_err-set_slots c =
+    wrote-never _ _ _ _ c.set_slots.ensures _ (number-it c.args.m.now c.requires 0 c.args.n) _ c.in_err-set_slots.was
 
-pub returns-in_default-first : goal.returns-in_default-first
-returns-in_default-first c = wrote-never _ _ _ _ c.set_first_free-first.ensures _ (number-it _ (omega (arith, c.requires)) 32 1) _ c.in_default-first.is
+pub returns-in_err-set_first_free : goal.returns-in_err-set_first_free
+returns-in_err-set_first_free c = wrote-never _ _ _ _ c.set_first_free.ensures _ (number-it _ (omega (arith, c.requires)) 32 1) _ c.in_err-set_first_free.was
 
 pub returns : goal.returns
 returns c =
     let a = c.args in
-    (refl, head-laid a.m.now _ _ _ _ a.n _ _ c.requires c.set_slots-slots.ensures c.clear.ensures c.set_first_free-first.ensures c.clear-2.ensures)
+    (refl, head-laid a.m.now _ _ _ _ a.n _ _ c.requires c.set_slots.ensures c.clear.ensures c.set_first_free.ensures c.clear-2.ensures)

@@ -1,4 +1,5 @@
 -- `set_info` meets its contract: the slot that is written is the one that stood there.
+use Rattle.answer.proofs.Opened.{raised}
 use mathlib.Core.Path.{refl, ap, ◌∙◌}
 use Prim.Native.Nat.{ℕ}
 use native.Mathlib.Omega.{arith}
@@ -11,25 +12,25 @@ pub read_u32-child-requires : goal.read_u32-child-requires
 read_u32-child-requires c =
     let a = c.args in
     let k = c.kid_start in
-    omega (arith, place_is k.result a.m.now a.slot a.i k.ensures _ c.in-Is.is)
+    omega (arith, place_is k.result a.m.now a.slot a.i k.ensures _ c.in_ok-at.was)
 
 pub put_kid-requires : goal.put_kid-requires
 put_kid-requires c =
     let a = c.args in
     let k = c.kid_start in
-    omega (arith, place_is k.result a.m.now a.slot a.i k.ensures _ c.in-Is.is)
+    omega (arith, place_is k.result a.m.now a.slot a.i k.ensures _ c.in_ok-at.was)
 
-pub returns-in-Refused : goal.returns-in-Refused
-returns-in-Refused c =
+pub returns-in_err-at : goal.returns-in_err-at
+returns-in_err-at c = rw (raised c.from_residual.ensures.1) (
     let a = c.args in
     let k = c.kid_start in
-    wrote-refused _ _ _ _ (put_refused k.result a.m.now a.slot a.i k.ensures _ _ c.in-Refused.is) refl
+    wrote-refused _ _ _ _ (put_refused k.result a.m.now a.slot a.i k.ensures _ _ c.in_err-at.was) refl)
 
-pub returns-in-Is : goal.returns-in-Is
-returns-in-Is c =
+pub returns : goal.returns
+returns c =
     let a = c.args in
     let k = c.kid_start in
-    let e = c.in-Is.is in
+    let e = c.in_ok-at.was in
     let n = c.read_u32-child in
     wrote-done _ _ _ _ _ (put-done k.result a.m.now a.slot a.i k.ensures _ _ e) refl
     (c.put_kid.ensures

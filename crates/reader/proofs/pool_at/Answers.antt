@@ -10,4 +10,4 @@ returns-in_default c =
 pub returns : goal.returns
 returns c =
     let a = c.args in
-    pool-some a.m.now a.p c.run_refusal.result c.run_refusal.ensures c.in-Accepted.is
+    pool-some a.m.now a.p c.run_refusal.result c.run_refusal.ensures c.in-Ok.is

@@ -13,7 +13,7 @@ returns g c =
     let b = a.buf.now in
     let fill = a.st.fill in
     let n = c.in-Ok.n in
-    let x = c.read-got.new.buf in
-    let few : length x ≡ length b - fill = c.read-got.auto.buf ∙ mid_len fill (length b) b (omega arith) in
-    let same : length (put_mid fill (length b - fill) b x) ≡ length b = same_len_mid fill (length b - fill) b x c.read-got.auto.buf in
+    let x = c.read.new.buf in
+    let few : length x ≡ length b - fill = c.read.auto.buf ∙ mid_len fill (length b) b (omega arith) in
+    let same : length (put_mid fill (length b - fill) b x) ≡ length b = same_len_mid fill (length b - fill) b x c.read.auto.buf in
     (omega arith, omega (arith, same, few, c.in-Ok.ensures.bound.0), take_put fill (length b - fill) b x (omega arith), read_is a.st fill n)

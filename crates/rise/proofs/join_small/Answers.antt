@@ -1,33 +1,23 @@
 -- `join_small` meets its contract: the child put into its list, and joined there.
-use Rattle.rise.proofs.Rules.{mend-same, mend-small, small-split, small-apart, small-refused}
+use native.Mathlib.Omega.{arith}
+use Rattle.answer.proofs.Opened.{raised}
+use Rattle.rise.proofs.Rules.{mend-done, small-other, small-refused}
 use Rattle.rise.proofs.join_small.Goals as goal
 
 pub returns-in-Same : goal.returns-in-Same
 returns-in-Same c =
     let a = c.args in
-    let w = c.put_one-put in
-    mend-same a.m.now a.slot a.idx a.info w.result _ w.ensures _ _ c.before-in-Same.ensures _ _ c.mend.ensures c.in-Same.is
+    let w = c.put_one in
+    mend-done a.m.now a.slot a.idx a.info w.result _ w.ensures _ _ (omega (arith, c.saturating_sub.ensures)) _ _ c.mend.ensures _ c.in_ok-made.was c.in-Same.is
 
-pub returns-in-Small : goal.returns-in-Small
-returns-in-Small c =
+pub returns-in_default : goal.returns-in_default
+returns-in_default c =
     let a = c.args in
-    let w = c.put_one-put in
-    mend-small a.m.now a.slot a.idx a.info w.result _ w.ensures _ _ c.before-in-Small.ensures _ _ c.mend-in-Small.ensures c.in-Small.is
+    let w = c.put_one in
+    small-other a.m.now a.slot a.idx a.info w.result _ w.ensures _ c.in_ok-made.was c.in_default.not-Same c.in_default.not-Small
 
-pub returns-in-Split : goal.returns-in-Split
-returns-in-Split c =
+pub returns-in_err-made : goal.returns-in_err-made
+returns-in_err-made c = rw (raised c.from_residual.ensures.1) (
     let a = c.args in
-    let w = c.put_one-put in
-    small-split a.m.now a.slot a.idx a.info w.result _ w.ensures _ _ _ c.in-Split.is
-
-pub returns-in-Apart : goal.returns-in-Apart
-returns-in-Apart c =
-    let a = c.args in
-    let w = c.put_one-put in
-    small-apart a.m.now a.slot a.idx a.info w.result _ w.ensures c.in-Apart.is
-
-pub returns-in-Refused : goal.returns-in-Refused
-returns-in-Refused c =
-    let a = c.args in
-    let w = c.put_one-put in
-    small-refused a.m.now a.slot a.idx a.info w.result _ w.ensures _ c.in-Refused.is
+    let w = c.put_one in
+    small-refused a.m.now a.slot a.idx a.info w.result _ w.ensures _ c.in_err-made.was)

@@ -14,10 +14,10 @@ returns-then-h c =
     let a = c.args in
     did-is _ _ _ _ _ (grown-high a.m.now a.left a.right a.other c.if-right-gt-LAST_SLOT.false (sym c.height-h.ensures ∙ c.if-h.true)) refl refl
 
-pub returns-in_default : goal.returns-in_default
-returns-in_default c =
+pub returns-in_err-both : goal.returns-in_err-both
+returns-in_err-both c =
     let p = c.pair-both in
-    pair-never _ _ p.result p.ensures _ c.in_default.is
+    pair-never _ _ p.result p.ensures _ c.in_err-both.was
 
 pub raise-requires : goal.raise-requires
 raise-requires c =

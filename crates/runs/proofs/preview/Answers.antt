@@ -12,4 +12,4 @@ returns-in_default c = let a = c.args in (preview-none a.m.now a.piece.now a.p a
 pub returns : goal.returns
 returns c =
     let a = c.args in
-    (preview-some a.m.now a.piece.now a.p a.q c.preview_refusal.result c.preview_refusal.ensures c.in-Accepted.is c.own_part.result.now _ c.own_part.ensures.0 c.joined_from.ensures.0, ⊎_elim (λ x. inl (part-of-part _ _ _ x c.own_part.ensures.1)) (λ x. inr x) c.joined_from.ensures.1)
+    (preview-some a.m.now a.piece.now a.p a.q c.preview_refusal.result c.preview_refusal.ensures c.in-Ok.is c.own_part.result.now _ c.own_part.ensures.0 c.joined_from.ensures.0, ⊎_elim (λ x. inl (part-of-part _ _ _ x c.own_part.ensures.1)) (λ x. inr x) c.joined_from.ensures.1)

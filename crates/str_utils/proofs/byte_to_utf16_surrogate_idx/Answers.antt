@@ -1,4 +1,5 @@
 -- `str_utils::byte_to_utf16_surrogate_idx` meets its contract: the pairs of the bytes up to the floor.
+use Rattle.answer.proofs.Opened.{passed}
 use mathlib.Core.Path.{sym, ap, ◌∙◌}
 use Prim.Native.Nat.{ℕ}
 use lib.ListN.{take}
@@ -8,8 +9,8 @@ use Rattle.plain.specs.Place.{is_wide, floor_of}
 use Rattle.str_utils.proofs.Laws.{pairs-of-byte, text-is, text-passed, text-valid}
 use Rattle.str_utils.proofs.byte_to_utf16_surrogate_idx.Goals as goal
 
-pub returns-in_default : goal.returns-in_default
-returns-in_default c = text-passed _ _ _ c.checked-whole.ensures _ _ c.in_default.is
+pub returns-in_err-checked : goal.returns-in_err-checked
+returns-in_err-checked c = rw (passed c.in_err-checked.was c.from_residual.ensures.1) (text-passed _ _ _ c.checked.ensures _ _ c.in_err-checked.was)
 
 pub slice_bounds-count_surrogates-end : goal.slice_bounds-count_surrogates-end
 slice_bounds-count_surrogates-end c = sym (length-take-le _ _ c.floor-i.ensures.1)
@@ -17,5 +18,5 @@ slice_bounds-count_surrogates-end c = sym (length-take-le _ _ c.floor-i.ensures.
 pub returns : goal.returns
 returns c =
     let text = c.args.text.now in
-    text-is text _ (λ s. count_if is_wide (take (floor_of s c.args.byte_idx) s)) (pairs-of-byte c.args.byte_idx) _ (text-valid text _ _ c.checked-whole.ensures _ c.in-Is.is)
+    text-is text _ (λ s. count_if is_wide (take (floor_of s c.args.byte_idx) s)) (pairs-of-byte c.args.byte_idx) _ (text-valid text _ _ c.checked.ensures _ c.in_ok-checked.was)
     (c.count_surrogates.ensures ∙ ap (λ (n : ℕ). count_if is_wide (take n text)) c.floor-i.ensures.0)

@@ -67,4 +67,4 @@ pub returns-in-EndsWithLineBreak : goal.returns-in-EndsWithLineBreak
 returns-in-EndsWithLineBreak c = by_call _ EndsWithLineBreak _ _ _ _ c.in-EndsWithLineBreak.is (c.truth_as_number-in-EndsWithLineBreak.ensures ∙ ap counted c.ends_with_line_break.ensures)
 
 pub returns-in-Valid : goal.returns-in-Valid
-returns-in-Valid c = by_call _ Valid _ _ _ _ c.in-Valid.is (ap value (truth-is _ _ c.valid.ensures))
+returns-in-Valid c = by_call _ Valid _ _ _ _ c.in-Valid.is (ap value (c.from.ensures ∙ truth-is _ _ c.valid.ensures))

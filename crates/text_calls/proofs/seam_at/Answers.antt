@@ -1,15 +1,18 @@
 -- `text_calls::seam_at` meets its contract: refused past the end, else the seam of the two sides.
-use mathlib.Core.Path.{sym, ◌∙◌}
-use lib.Seq.{length-take-le}
-use Rattle.text_calls.proofs.Laws.{seam-past, seam-cut}
+use mathlib.Core.Path.{ap, ◌∙◌}
+use Rattle.answer.specs.Answers.{refusal_number}
+use Rattle.answer.specs.declared.Refusal.{Refusal}
+use Rattle.plain.specs.Outcome.{Outcome.refused}
+use Rattle.answer.proofs.Opened.{raised}
+use Rattle.text_calls.proofs.Laws.{found, missed, seam-past, seam-cut}
 use Rattle.text_calls.proofs.seam_at.Goals as goal
 
-pub returns-then-text-index : goal.returns-then-text-index
-returns-then-text-index c = seam-past _ _ c.if-text-index.true
-
-pub slice_bounds-seam_is_break-end : goal.slice_bounds-seam_is_break-end
-slice_bounds-seam_is_break-end c = sym (length-take-le _ _ c.if-text-index.false)
+pub returns-in_err-left : goal.returns-in_err-left
+returns-in_err-left c =
+    let past = missed _ _ _ _ _ c.split_at_checked.ensures.cases c.ok_or.ensures.value c.in_err-left.was in
+    rw (raised c.from_residual.ensures.1) (ap (λ (q : Refusal). refused (refusal_number q)) past.0 ∙ seam-past _ _ past.1)
 
 pub returns : goal.returns
 returns c =
-    c.truth_as_number.ensures ∙ seam-cut c.args.index c.args.text.now _ c.if-text-index.false c.seam_is_break.ensures
+    let cut = found _ _ _ _ _ c.split_at_checked.ensures.cases c.ok_or.ensures.value c.in_ok-left.was in
+    c.truth_as_number.ensures ∙ seam-cut _ _ _ _ _ cut c.seam_is_break.ensures

@@ -1,6 +1,7 @@
 -- `check_list` and `check_node` meet their contracts together: a list calls the check of its children at its own level, and a node that of
 -- its list one level down.
-use mathlib.Core.Path.{◌≡◌, refl, sym, subst, ◌∙◌}
+use Rattle.std.specs.Prelude.{Some}
+use mathlib.Core.Path.{◌≡◌, refl, sym, ap, subst, ◌∙◌}
 use Prim.Native.Nat.{ℕ, ◌<◌}
 use native.Mathlib.Omega.{arith}
 use lib.ListN.{length-set}
@@ -34,16 +35,16 @@ check_list-returns-in_default-info_of t c =
     let l : w.i < 16 = omega (arith, c.loop-i-test.true, p.1) in
     absurd (info-there a.m.now a.slot w.i h l c.info_of.result c.info_of.ensures _ c.in_default-info_of.is)
 
-pub check_list-returns-in_default-check_node : goal.check_list-returns-in_default-check_node
-check_list-returns-in_default-check_node t c =
+pub check_list-returns-in_err-met : goal.check_list-returns-in_err-met
+check_list-returns-in_err-met t c =
     let a = c.args in
     let p = c.requires in
     let w = c.loop-i in
     let h = inside a.m.now a.slot p.0 in
     let l : w.i < 16 = omega (arith, c.loop-i-test.true, p.1) in
-    let o = parts-opened _ _ _ (child-opened a.m.now a.slot w.i h l c.child_of.result c.child_of.ensures _ c.in-Is.is) (info-opened a.m.now a.slot w.i h l c.info_of.result c.info_of.ensures _ c.in-Is-info_of.is) in
-    let d = child-met a.m.now w.seen _ c.least_of-least.result a.level _ c.check_node.result _ c.least_of-least.ensures c.in_default-check_node.is c.check_node.ensures in
-    λ e s f. turn-bad a.m.now _ a.level a.slot w.i l _ o w.seen _ _ _ w.invariant.3 a.n c.loop-i-test.true p.1 e s f d
+    let o = parts-opened _ _ _ (child-opened a.m.now a.slot w.i h l c.child_of.result c.child_of.ensures _ c.in-Ok.is) (info-opened a.m.now a.slot w.i h l c.info_of.result c.info_of.ensures _ c.in-Ok-info_of.is) in
+    let d = child-met a.m.now w.seen _ c.least_of-least.result a.level _ c.check_node.result _ c.least_of-least.ensures c.in_err-met.was c.check_node.ensures in
+    rw c.from_residual.ensures (λ e s f. turn-bad a.m.now _ a.level a.slot w.i l _ o w.seen _ _ _ w.invariant.3 a.n c.loop-i-test.true p.1 e s f d)
 
 pub check_list-returns-then-not-follows : goal.check_list-returns-then-not-follows
 check_list-returns-then-not-follows t c =
@@ -52,20 +53,14 @@ check_list-returns-then-not-follows t c =
     let w = c.loop-i in
     let h = inside a.m.now a.slot p.0 in
     let l : w.i < 16 = omega (arith, c.loop-i-test.true, p.1) in
-    let o = parts-opened _ _ _ (child-opened a.m.now a.slot w.i h l c.child_of.result c.child_of.ensures _ c.in-Is.is) (info-opened a.m.now a.slot w.i h l c.info_of.result c.info_of.ensures _ c.in-Is-info_of.is) in
-    let d = child-met a.m.now w.seen _ c.least_of-least.result a.level _ c.check_node.result _ c.least_of-least.ensures c.in-Fine.is c.check_node.ensures in
+    let o = parts-opened _ _ _ (child-opened a.m.now a.slot w.i h l c.child_of.result c.child_of.ensures _ c.in-Ok.is) (info-opened a.m.now a.slot w.i h l c.info_of.result c.info_of.ensures _ c.in-Ok-info_of.is) in
+    let d = child-met a.m.now w.seen _ c.least_of-least.result a.level _ c.check_node.result _ c.least_of-least.ensures c.in_ok-met.was c.check_node.ensures in
     λ e s f. turn-off a.m.now _ a.level a.slot w.i l _ o w.seen _ _ _ w.invariant.3 a.n c.loop-i-test.true p.1 e s f _ _ _ _ d (sym c.follows.ensures ∙ c.if-not-follows.true)
 
 pub check_list-plus-sum-requires : goal.check_list-plus-sum-requires
 check_list-plus-sum-requires t c =
     let w = c.loop-i in
     within_more w.sum w.i 16 (omega (arith, c.loop-i-test.true, c.requires.1)) w.invariant.2
-
-pub check_list-overflow_add-i : goal.check_list-overflow_add-i
-check_list-overflow_add-i t c = omega (arith, c.loop-i-test.true, c.requires.1)
-
-pub check_list-loop-i-smaller : goal.check_list-loop-i-smaller
-check_list-loop-i-smaller t c = omega (arith, c.loop-i-test.true)
 
 pub check_list-loop-i-preserved : goal.check_list-loop-i-preserved
 check_list-loop-i-preserved t c =
@@ -74,8 +69,8 @@ check_list-loop-i-preserved t c =
     let w = c.loop-i in
     let h = inside a.m.now a.slot p.0 in
     let l : w.i < 16 = omega (arith, c.loop-i-test.true, p.1) in
-    let o = parts-opened _ _ _ (child-opened a.m.now a.slot w.i h l c.child_of.result c.child_of.ensures _ c.in-Is.is) (info-opened a.m.now a.slot w.i h l c.info_of.result c.info_of.ensures _ c.in-Is-info_of.is) in
-    let d = child-met a.m.now w.seen _ c.least_of-least.result a.level _ c.check_node.result _ c.least_of-least.ensures c.in-Fine.is c.check_node.ensures in (
+    let o = parts-opened _ _ _ (child-opened a.m.now a.slot w.i h l c.child_of.result c.child_of.ensures _ c.in-Ok.is) (info-opened a.m.now a.slot w.i h l c.info_of.result c.info_of.ensures _ c.in-Ok-info_of.is) in
+    let d = child-met a.m.now w.seen _ c.least_of-least.result a.level _ c.check_node.result _ c.least_of-least.ensures c.in_ok-met.was c.check_node.ensures in (
       omega (arith, c.loop-i-test.true),
       c.check_node.auto.seen ∙ w.invariant.1,
       within-plus w.sum _ c.plus-sum.result w.i w.invariant.2 c.plus-sum.ensures,
@@ -100,25 +95,25 @@ check_node-returns-then-seen-slot-ne0 t c = λ g f. met-bad _ _ _ _ c.if-seen-sl
 pub check_node-check_leaf-requires : goal.check_node-check_leaf-requires
 check_node-check_leaf-requires t c =
     let a = c.args in
-    let w = shape_is a.m.now a.least a.level a.slot c.shape_of.result _ c.in-Leaf.is c.shape_of.ensures in
+    let w = shape_is a.m.now a.least a.level a.slot c.shape_of.result _ (c.in_ok-n.was ∙ ap Some c.in-Leaf.is) c.shape_of.ensures in
     (not-outside a.m.now a.slot (leaf-says a.m.now a.slot w.leaf).0, w.few)
 
 pub check_node-overflow_sub-level : goal.check_node-overflow_sub-level
 check_node-overflow_sub-level t c =
     let a = c.args in
-    let w = shape_is a.m.now a.least a.level a.slot c.shape_of.result _ c.in-List.is c.shape_of.ensures in
+    let w = shape_is a.m.now a.least a.level a.slot c.shape_of.result _ (c.in_ok-n.was ∙ ap Some c.in-List.is) c.shape_of.ensures in
     omega (arith, w.height)
 
 pub check_node-check_list-requires : goal.check_node-check_list-requires
 check_node-check_list-requires t c =
     let a = c.args in
-    let w = shape_is a.m.now a.least a.level a.slot c.shape_of.result _ c.in-List.is c.shape_of.ensures in
+    let w = shape_is a.m.now a.least a.level a.slot c.shape_of.result _ (c.in_ok-n.was ∙ ap Some c.in-List.is) c.shape_of.ensures in
     (omega (arith, w.height), (not-outside a.m.now a.slot (list-says a.m.now a.slot w.list).0, w.few))
 
 pub check_node-returns-in-Leaf : goal.check_node-returns-in-Leaf
 check_node-returns-in-Leaf t c =
     let a = c.args in
-    let w = shape_is a.m.now a.least a.level a.slot c.shape_of.result _ c.in-Leaf.is c.shape_of.ensures in
+    let w = shape_is a.m.now a.least a.level a.slot c.shape_of.result _ (c.in_ok-n.was ∙ ap Some c.in-Leaf.is) c.shape_of.ensures in
     leaf-met a.m.now a.seen.now a.least a.level a.slot _ c.if-seen-slot.false c.if-seen-slot-ne0.false w c.check_leaf.result c.check_leaf.ensures
 
 pub check_node-shape_of-seen-in-List : goal.check_node-shape_of-seen-in-List
@@ -129,11 +124,5 @@ check_node-shape_of-seen-in-List t c =
 pub check_node-returns-in-List : goal.check_node-returns-in-List
 check_node-returns-in-List t c =
     let a = c.args in
-    let w = shape_is a.m.now a.least a.level a.slot c.shape_of.result _ c.in-List.is c.shape_of.ensures in
+    let w = shape_is a.m.now a.least a.level a.slot c.shape_of.result _ (c.in_ok-n.was ∙ ap Some c.in-List.is) c.shape_of.ensures in
     list-met a.m.now a.seen.now a.least a.level a.slot _ c.if-seen-slot.false c.if-seen-slot-ne0.false c.check_list.new.seen w c.check_list.result c.check_list.ensures
-
-pub check_node-returns-in-Wrong : goal.check_node-returns-in-Wrong
-check_node-returns-in-Wrong t c =
-    let a = c.args in
-    let w = shape_is a.m.now a.least a.level a.slot c.shape_of.result _ c.in-Wrong.is c.shape_of.ensures in
-    λ g _. w g

@@ -1,7 +1,6 @@
 -- `utf8::ascii` meets its contract. The loop's invariant: what is still to be asked is asked of the bytes still to come.
-use mathlib.Core.Path.{refl, sym, ap, ◌∙◌}
+use mathlib.Core.Path.{sym, ap, ◌∙◌}
 use mathlib.Core.Bool.{Bool, ◌&&◌}
-use Prim.Native.Nat.{◌-◌}
 use native.Mathlib.Omega.{arith}
 use borrow.Author.Tests.{not-true, not-false}
 use lib.Dec.{ltb}
@@ -10,22 +9,10 @@ use Rattle.utf8.specs.Bmp.{highest}
 use Rattle.utf8.proofs.Highest.{below_end}
 use Rattle.utf8.proofs.ascii.Goals as goal
 
-pub loop-i-init : goal.loop-i-init
-loop-i-init c = (omega arith, refl)
-
-pub stop-e-requires : goal.stop-e-requires
-stop-e-requires c = omega arith
-
-pub part_below-requires : goal.part_below-requires
-part_below-requires c = (omega arith, omega arith)
-
 pub returns-then-not-part_below : goal.returns-then-not-part_below
 returns-then-not-part_below c =
     let e = c.stop-e.result in
     ap (λ (t : Bool). t && ltb (highest (drop e c.args.text.now)) 0x80) (sym (not-true c.part_below.result c.if-not-part_below.true-raw)) ∙ c.part_below.ensures ∙ c.loop-i.invariant.1
-
-pub loop-i-smaller : goal.loop-i-smaller
-loop-i-smaller c = omega arith
 
 pub loop-i-preserved : goal.loop-i-preserved
 loop-i-preserved c =

@@ -1,16 +1,14 @@
 -- `list` meets its contract.
-use mathlib.Core.Path.{sym}
-use Rattle.nodes.proofs.Heads.{head-leaf, head-list, head-free, head-none, leaf-no-list}
+use Rattle.std.specs.Prelude.{Ok}
+use mathlib.Core.Path.{sym, ap, ◌∙◌}
+use Rattle.nodes.proofs.Heads.{head-list, head-none, head-no-list}
 use Rattle.child_info.proofs.checks.list.Goals as goal
 
+pub returns-in_default : goal.returns-in_default
+returns-in_default c = sym (head-none c.args.m.now c.args.slot _ c.head_of.ensures _ c.in_default.is).1
+
 pub returns-in-List : goal.returns-in-List
-returns-in-List c = sym (head-list c.args.m.now c.args.slot c.head_of.result c.head_of.ensures _ c.in-List.is).0
+returns-in-List c = sym (head-list c.args.m.now c.args.slot _ c.head_of.ensures _ (c.in-Ok.is ∙ ap Ok c.in-List.is)).0
 
-pub returns-in-Leaf : goal.returns-in-Leaf
-returns-in-Leaf c = sym (leaf-no-list _ _ (head-leaf c.args.m.now c.args.slot c.head_of.result c.head_of.ensures _ c.in-Leaf.is).0)
-
-pub returns-in-Free : goal.returns-in-Free
-returns-in-Free c = sym (head-free c.args.m.now c.args.slot c.head_of.result c.head_of.ensures _ c.in-Free.is).1
-
-pub returns-in-Refused : goal.returns-in-Refused
-returns-in-Refused c = sym (head-none c.args.m.now c.args.slot c.head_of.result c.head_of.ensures _ c.in-Refused.is).1
+pub returns-in_default-matches : goal.returns-in_default-matches
+returns-in_default-matches c = sym (head-no-list c.args.m.now c.args.slot _ c.head_of.ensures _ c.in-Ok.is c.in_default-matches.not-List)

@@ -2,8 +2,8 @@
 use Rattle.child_info.proofs.Counted.{stale-refused, stale-by}
 use Rattle.child_info.proofs.checks.stale.Goals as goal
 
-pub returns-in-Refused : goal.returns-in-Refused
-returns-in-Refused c = stale-refused c.text_info.result _ c.text_info.ensures _ _ c.in-Refused.is
+pub returns-in-Err : goal.returns-in-Err
+returns-in-Err c = stale-refused c.text_info.result _ c.text_info.ensures _ _ c.in-Err.is
 
-pub returns-in-Is : goal.returns-in-Is
-returns-in-Is c = stale-by c.text_info.result _ c.text_info.ensures _ _ _ c.in-Is.is c.same_info.ensures
+pub returns-in-Ok : goal.returns-in-Ok
+returns-in-Ok c = stale-by c.text_info.result _ c.text_info.ensures _ _ _ c.in-Ok.is c.same_info.ensures

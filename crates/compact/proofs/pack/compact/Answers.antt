@@ -2,7 +2,7 @@
 use mathlib.Core.Path.{refl}
 use Prim.Native.Nat.{◌-◌}
 use native.Mathlib.Omega.{arith}
-use Rattle.answer.proofs.Opened.{verdict-never}
+use Rattle.answer.proofs.Opened.{never-refused}
 use Rattle.node_children.specs.Kids.{kids}
 use Rattle.compact.proofs.Loops.{loop-start, loop-end, turn-same, turn-less}
 use Rattle.compact.proofs.pack.compact.Goals as goal
@@ -17,10 +17,10 @@ pub pack_at-next-requires : goal.pack_at-next-requires
 pack_at-next-requires c = let v = c.loop-i.invariant in (v.leaves, v.low, omega arith, v.few, v.clean)
 
 pub shape_of-m-in_default : goal.shape_of-m-in_default
-shape_of-m-in_default c = verdict-never _ c.pack_at-next.result.verdict c.pack_at-next.ensures.1.answered c.in_default.is
+shape_of-m-in_default c = never-refused _ c.pack_at-next.result.verdict tt c.pack_at-next.ensures.1.answered c.in_default.is
 
 pub returns-in_default : goal.returns-in_default
-returns-in_default c = verdict-never _ c.pack_at-next.result.verdict c.pack_at-next.ensures.1.answered c.in_default.is
+returns-in_default c = never-refused _ c.pack_at-next.result.verdict tt c.pack_at-next.ensures.1.answered c.in_default.is
 
 pub overflow_add-i : goal.overflow_add-i
 overflow_add-i c = let v = c.loop-i.invariant in omega (arith, v.high, v.few)

@@ -5,7 +5,6 @@ use Prim.Native.Nat.{ℕ, ◌+◌}
 use native.Mathlib.Omega.{arith}
 use lib.ListN.{length}
 use Rattle.plain.specs.Outcome.{Outcome.value}
-use Rattle.answer.proofs.Opened.{number-never}
 use Rattle.leaf_bytes.specs.Leaf.{laid}
 use Rattle.octets.specs.Over.{overlaid}
 use Rattle.leaf_bytes.proofs.Opened.{value-is}
@@ -20,28 +19,12 @@ in-turn r x y z r1 r2 r3 i j e f e1 e2 e3 =
     let two : j ≡ length x + length y = omega arith in
     laid-three r x y z r1 r2 r3 e1 (e2 ∙ ap (λ (n : ℕ). overlaid n y r1) one) (e3 ∙ ap (λ (n : ℕ). overlaid n z r2) two)
 
-pub returns-in_default : goal.returns-in_default
-returns-in_default c =
-    number-never _ _ _ c.put-first.ensures.0 c.in_default.is
-
-pub put-second-requires : goal.put-second-requires
-put-second-requires c =
-    omega (arith, value-is _ _ c.put-first.ensures.0 _ c.in-Is.is)
-
-pub returns-in_default-second : goal.returns-in_default-second
-returns-in_default-second c =
-    number-never _ _ _ c.put-second.ensures.0 c.in_default-second.is
-
-pub put-requires : goal.put-requires
-put-requires c =
-    omega (arith, value-is _ _ c.put-first.ensures.0 _ c.in-Is.is, value-is _ _ c.put-second.ensures.0 _ c.in-Is-second.is)
-
 pub returns : goal.returns
 returns c =
     let a = c.args in
     let x = a.x.now in
     let y = a.y.now in
     let z = a.z.now in
-    let i = value-is _ _ c.put-first.ensures.0 _ c.in-Is.is in
-    let j = value-is _ _ c.put-second.ensures.0 _ c.in-Is-second.is in
-    (c.put.ensures.0 ∙ ap (λ (n : ℕ). value n) (omega (arith, i, j)), in-turn a.region.now x y z _ _ _ _ _ i j c.put-first.ensures.1 c.put-second.ensures.1 c.put.ensures.1)
+    let i = value-is _ _ c.put.ensures.0 _ c.in_ok-i.was in
+    let j = value-is _ _ c.put-2.ensures.0 _ c.in_ok-j.was in
+    (c.put-3.ensures.0 ∙ ap (λ (n : ℕ). value n) (omega (arith, i, j)), in-turn a.region.now x y z _ _ _ _ _ i j c.put.ensures.1 c.put-2.ensures.1 c.put-3.ensures.1)

@@ -5,7 +5,7 @@ use Prim.Native.Nat.{ℕ, ◌+◌, ◌-◌}
 use native.Mathlib.Omega.{arith}
 use lib.ListN.{length, take, drop, length-drop}
 use lib.Seq.{length-take-le, take_all}
-use Rattle.answer.proofs.Opened.{number-never}
+use Rattle.answer.proofs.Opened.{never-refused}
 use Rattle.leaf_bytes.specs.Leaf.{laid}
 use Rattle.leaf_bytes.proofs.Opened.{value-is, both-are}
 use Rattle.leaf_bytes.proofs.Laid.{laid-behind, within-left, within-right}
@@ -19,23 +19,23 @@ pub put-requires : goal.put-requires
 put-requires c =
     omega (arith, length-take-le (c.args.split - c.args.a) c.args.string.now (omega arith))
 
-pub returns-in-Refused : goal.returns-in-Refused
-returns-in-Refused c =
-    number-never _ _ _ c.lay.ensures.0 c.in-Refused.is
+pub returns-in_err-rest : goal.returns-in_err-rest
+returns-in_err-rest c =
+    never-refused _ _ _ c.lay.ensures.0 c.in_err-rest.was
 
-pub returns-in-Refused-put : goal.returns-in-Refused-put
-returns-in-Refused-put c =
-    number-never _ _ _ c.put.ensures.0 c.in-Refused-put.is
+pub returns-in_err-kept : goal.returns-in_err-kept
+returns-in_err-kept c =
+    never-refused _ _ _ c.put.ensures.0 c.in_err-kept.was
 
-pub returns-in-Is-put : goal.returns-in-Is-put
-returns-in-Is-put c =
+pub returns : goal.returns
+returns c =
     let a = c.args in
     let r = a.region.now in
     let s = a.string.now in
     let k = a.split - a.a in
     let rest = take (a.len - a.a) (drop a.a r) in
-    let n : c.in-Is.rest ≡ a.len + length s - a.split = omega (arith, value-is _ _ c.lay.ensures.0 _ c.in-Is.is, length-take-le (length s - k) (drop k s) (omega (arith, length-drop k s)), length-take-le (a.len - a.a) (drop a.a r) (omega (arith, length-drop a.a r))) in
-    let kept : c.in-Is-put.kept ≡ a.split = omega (arith, value-is _ _ c.put.ensures.0 _ c.in-Is-put.is, length-take-le k s (omega arith)) in (
+    let n : c.in_ok-rest.rest ≡ a.len + length s - a.split = omega (arith, value-is _ _ c.lay.ensures.0 _ c.in_ok-rest.was, length-take-le (length s - k) (drop k s) (omega (arith, length-drop k s)), length-take-le (a.len - a.a) (drop a.a r) (omega (arith, length-drop a.a r))) in
+    let kept : c.in_ok-kept.kept ≡ a.split = omega (arith, value-is _ _ c.put.ensures.0 _ c.in_ok-kept.was, length-take-le k s (omega arith)) in (
       both-are _ _ _ _ kept n,
       c.put.ensures.1 ∙ laid-behind r a.a (take k s) (omega arith)
           ∙ ap (laid r) (sym (within-left r s a.len a.a a.split (omega arith) (omega arith) (omega arith) (omega arith))),

@@ -5,7 +5,7 @@ use Prim.Native.Nat.{◌+◌, ◌-◌}
 use native.Mathlib.Omega.{arith}
 use lib.ListN.{take}
 use lib.Seq.{length-take-le}
-use Rattle.answer.proofs.Opened.{number-never}
+use Rattle.answer.proofs.Opened.{never-refused}
 use Rattle.leaf_bytes.specs.Leaf.{laid}
 use Rattle.leaf_bytes.proofs.Opened.{value-is, both-are}
 use Rattle.leaf_bytes.proofs.Calls.{replace-laid, replace-told}
@@ -20,33 +20,33 @@ pub replace-requires : goal.replace-requires
 replace-requires c =
     omega (arith, length-take-le (c.args.split - c.args.len) c.args.right.now (omega arith))
 
-pub returns-in-Refused : goal.returns-in-Refused
-returns-in-Refused c =
+pub returns-in_err-more : goal.returns-in_err-more
+returns-in_err-more c =
     let a = c.args in
     let y = take (a.split - a.len) a.right.now in
     let long = length-take-le (a.split - a.len) a.right.now (omega arith) in
-    number-never _ _ _ (replace-told a.left.now a.len a.len a.len y (omega arith) (omega arith) (omega arith) (omega arith) c.replace.ensures) c.in-Refused.is
+    never-refused _ _ _ (replace-told a.left.now a.len a.len a.len y (omega arith) (omega arith) (omega arith) (omega arith) c.replace.ensures) c.in_err-more.was
 
-pub returns-in-Refused-replace : goal.returns-in-Refused-replace
-returns-in-Refused-replace c =
+pub returns-in_err-rest : goal.returns-in_err-rest
+returns-in_err-rest c =
     let a = c.args in
-    number-never _ _ _ (replace-told a.right.now a.right_len 0 (a.split - a.len) [] (omega arith) (omega arith) (omega arith) (omega arith) c.replace-in-Is.ensures) c.in-Refused-replace.is
+    never-refused _ _ _ (replace-told a.right.now a.right_len 0 (a.split - a.len) [] (omega arith) (omega arith) (omega arith) (omega arith) c.replace-2.ensures) c.in_err-rest.was
 
-pub returns-in-Is-replace : goal.returns-in-Is-replace
-returns-in-Is-replace c =
+pub returns : goal.returns
+returns c =
     let a = c.args in
     let l = a.left.now in
     let r = a.right.now in
     let y = take (a.split - a.len) r in
     let long = length-take-le (a.split - a.len) r (omega arith) in
     let left = replace-told l a.len a.len a.len y (omega arith) (omega arith) (omega arith) (omega arith) c.replace.ensures in
-    let right = replace-told r a.right_len 0 (a.split - a.len) [] (omega arith) (omega arith) (omega arith) (omega arith) c.replace-in-Is.ensures in
-    let i : c.in-Is.more ≡ a.split = omega (arith, value-is _ _ left _ c.in-Is.is) in
-    let j : c.in-Is-replace.rest ≡ a.len + a.right_len - a.split = omega (arith, value-is _ _ right _ c.in-Is-replace.is) in (
+    let right = replace-told r a.right_len 0 (a.split - a.len) [] (omega arith) (omega arith) (omega arith) (omega arith) c.replace-2.ensures in
+    let i : c.in_ok-more.more ≡ a.split = omega (arith, value-is _ _ left _ c.in_ok-more.was) in
+    let j : c.in_ok-rest.rest ≡ a.len + a.right_len - a.split = omega (arith, value-is _ _ right _ c.in_ok-rest.was) in (
       both-are _ _ _ _ i j,
       replace-laid l a.len a.len a.len y (omega arith) (omega arith) (omega arith) (omega arith) c.replace.ensures
           ∙ laid-put l a.len y (omega arith) ∙ laid-behind l a.len y (omega arith)
           ∙ ap (laid l) (sym (above-left l r a.len a.right_len a.split (omega arith) (omega arith) (omega arith))),
-      replace-laid r a.right_len 0 (a.split - a.len) [] (omega arith) (omega arith) (omega arith) (omega arith) c.replace-in-Is.ensures
+      replace-laid r a.right_len 0 (a.split - a.len) [] (omega arith) (omega arith) (omega arith) (omega arith) c.replace-2.ensures
           ∙ ap (laid r) (sym (above-right l r a.len a.right_len a.split (omega arith) (omega arith))),
     )

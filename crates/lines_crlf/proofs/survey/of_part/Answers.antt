@@ -1,7 +1,7 @@
 -- `survey::of_part` meets its contract. The loop's invariant: the highest of the bytes passed, and what has been counted, with what is still to come, is
 -- the count from a on.
 use mathlib.Core.Path.{◌≡◌, ap, subst}
-use Prim.Native.Nat.{ℕ, ◌-◌}
+use Prim.Native.Nat.{ℕ}
 use native.Mathlib.Omega.{arith}
 use lib.ListN.{drop}
 use Rattle.plain.specs.Count.{breaks}
@@ -12,24 +12,6 @@ use Rattle.lines_crlf.proofs.survey.of_part.Goals as goal
 
 pub loop-i-init : goal.loop-i-init
 loop-i-init c = (omega arith, omega arith, omega arith, omega arith, tops-none _ _)
-
-pub bounds-text-i : goal.bounds-text-i
-bounds-text-i c = omega arith
-
-pub higher-high-requires : goal.higher-high-requires
-higher-high-requires c = tt
-
-pub ended-n-requires : goal.ended-n-requires
-ended-n-requires c = omega arith
-
-pub overflow_add-n : goal.overflow_add-n
-overflow_add-n c = omega arith
-
-pub overflow_add-i : goal.overflow_add-i
-overflow_add-i c = omega arith
-
-pub loop-i-smaller : goal.loop-i-smaller
-loop-i-smaller c = omega arith
 
 pub loop-i-preserved : goal.loop-i-preserved
 loop-i-preserved c =

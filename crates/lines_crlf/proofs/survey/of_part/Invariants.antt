@@ -9,6 +9,3 @@ use Rattle.lines_crlf.proofs.survey.of_part.Given as goal
 
 abbrev pub invariant-loop-i : goal.invariant-loop-i
 invariant-loop-i l = (l.a ≤ l.i) × (l.i ≤ l.e) × (l.n ≤ l.i - l.a) × (l.n + breaks (drop l.i l.text) ≡ breaks (drop l.a l.text)) × Tops l.text l.a l.i l.high
-
-abbrev pub decreases-loop-i : goal.decreases-loop-i
-decreases-loop-i l = l.e - l.i

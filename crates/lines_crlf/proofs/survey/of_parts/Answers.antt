@@ -1,7 +1,7 @@
 -- `survey::of_parts` meets its contract. The loop's invariant: the highest of the bytes passed, and the breaks counted, with those still to
 -- come, are all breaks.
 use mathlib.Core.Path.{◌≡◌, ap, subst}
-use Prim.Native.Nat.{ℕ, ◌-◌}
+use Prim.Native.Nat.{ℕ}
 use native.Mathlib.Omega.{arith}
 use lib.ListN.{drop}
 use Rattle.plain.specs.Count.{breaks}
@@ -11,24 +11,6 @@ use Rattle.lines_crlf.proofs.survey.of_parts.Goals as goal
 
 pub loop-i-init : goal.loop-i-init
 loop-i-init c = (omega arith, omega arith, omega arith, tops-none _ _)
-
-pub stop-e-requires : goal.stop-e-requires
-stop-e-requires c = omega arith
-
-pub of_part-p-requires : goal.of_part-p-requires
-of_part-p-requires c = (omega arith, omega arith, omega arith)
-
-pub higher-high-requires : goal.higher-high-requires
-higher-high-requires c = tt
-
-pub sum_of-n-requires : goal.sum_of-n-requires
-sum_of-n-requires c = tt
-
-pub overflow_add-n : goal.overflow_add-n
-overflow_add-n c = omega arith
-
-pub loop-i-smaller : goal.loop-i-smaller
-loop-i-smaller c = omega arith
 
 pub loop-i-preserved : goal.loop-i-preserved
 loop-i-preserved c =

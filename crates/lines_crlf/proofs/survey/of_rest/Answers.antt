@@ -1,7 +1,7 @@
 -- `survey::of_rest` meets its contract. The loop's invariant: the highest of the bytes passed; and from the first byte that counts on, what
 -- has been counted, with what is still to come, is the count from there on.
 use mathlib.Core.Path.{◌≡◌, ap, subst}
-use Prim.Native.Nat.{ℕ, ◌+◌, ◌-◌}
+use Prim.Native.Nat.{ℕ, ◌+◌}
 use native.Mathlib.Omega.{arith}
 use lib.ListN.{drop}
 use Rattle.plain.specs.Count.{breaks}
@@ -15,30 +15,6 @@ pub loop-i-init : goal.loop-i-init
 loop-i-init c =
     let a = c.args in
     (omega arith, omega arith, omega arith, λ h. let e : a.base ≡ a.base + a.s = omega arith in omega (arith, ap (λ (j : ℕ). breaks (drop j a.text.now)) e), tops-none _ _)
-
-pub bounds-text-i : goal.bounds-text-i
-bounds-text-i c = omega arith
-
-pub higher-high-requires : goal.higher-high-requires
-higher-high-requires c = tt
-
-pub ended-requires : goal.ended-requires
-ended-requires c = omega arith
-
-pub from_on-n-requires : goal.from_on-n-requires
-from_on-n-requires c = tt
-
-pub overflow_add-n : goal.overflow_add-n
-overflow_add-n c = omega arith
-
-pub overflow_add-k : goal.overflow_add-k
-overflow_add-k c = omega arith
-
-pub overflow_add-i : goal.overflow_add-i
-overflow_add-i c = omega arith
-
-pub loop-i-smaller : goal.loop-i-smaller
-loop-i-smaller c = omega arith
 
 pub loop-i-preserved : goal.loop-i-preserved
 loop-i-preserved c =

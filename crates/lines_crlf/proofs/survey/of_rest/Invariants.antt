@@ -9,6 +9,3 @@ use Rattle.lines_crlf.proofs.survey.of_rest.Given as goal
 
 abbrev pub invariant-loop-i : goal.invariant-loop-i
 invariant-loop-i l = (l.i ≡ l.base + l.k) × (l.k ≤ 32) × (l.n ≤ l.k - l.s) × (l.s ≤ l.k → l.n + breaks (drop l.i l.text) ≡ breaks (drop (l.base + l.s) l.text)) × Tops l.text l.base l.i l.high
-
-abbrev pub decreases-loop-i : goal.decreases-loop-i
-decreases-loop-i l = l.end - l.i

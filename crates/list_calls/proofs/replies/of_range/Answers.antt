@@ -2,8 +2,8 @@
 use mathlib.Core.Path.{sym}
 use Rattle.list_calls.proofs.replies.of_range.Goals as goal
 
-pub returns-in-Refused : goal.returns-in-Refused
-returns-in-Refused c = sym (rw c.in-Refused.is)
+pub returns-in-Err : goal.returns-in-Err
+returns-in-Err c = sym (rw c.in-Err.is)
 
-pub returns-in-Are : goal.returns-in-Are
-returns-in-Are c = sym (rw c.in-Are.is)
+pub returns-in-Ok : goal.returns-in-Ok
+returns-in-Ok c = sym (rw c.in-Ok.is)

@@ -1,9 +1,10 @@
 -- `of_sum` meets its contract: for each of the two answers.
+use Rattle.answer.proofs.Opened.{raised}
 use mathlib.Core.Path.{sym}
 use Rattle.list_calls.proofs.replies.of_sum.Goals as goal
 
-pub returns-in-Refused : goal.returns-in-Refused
-returns-in-Refused c = sym (rw c.in-Refused.is)
+pub returns-in_err-t : goal.returns-in_err-t
+returns-in_err-t c = rw (raised c.from_residual.ensures.1) (sym (rw c.in_err-t.was))
 
-pub returns-in-Is : goal.returns-in-Is
-returns-in-Is c = sym (rw c.in-Is.is)
+pub returns : goal.returns
+returns c = sym (rw c.in_ok-t.was)

@@ -5,7 +5,7 @@ use Prim.Native.Nat.{ℕ, ◌+◌, ◌-◌}
 use native.Mathlib.Omega.{arith}
 use lib.ListN.{take, length-map}
 use lib.Seq.{get_or-take}
-use Rattle.answer.proofs.Opened.{verdict-never}
+use Rattle.answer.proofs.Opened.{never-refused}
 use Rattle.plain.specs.Outcome.{mapped}
 use Rattle.pool.specs.declared.Kid.{Kid}
 use Rattle.pool.specs.Slot.{no_kid}
@@ -27,7 +27,7 @@ bounds-right-i c = omega arith
 pub returns-in_default : goal.returns-in_default
 returns-in_default c =
     let l = c.loop-i in
-    verdict-never _ c.push-longer.result.verdict (c.push-longer.ensures.answered ∙ ap (mapped (λ x. tt)) (pushed-done l.list _ (omega (arith, l.invariant.2.len)))) c.in_default.is
+    never-refused _ c.push-longer.result.verdict tt (c.push-longer.ensures.answered ∙ ap (mapped (λ x. tt)) (pushed-done l.list _ (omega (arith, l.invariant.2.len)))) c.in_default.is
 
 pub overflow_add-i : goal.overflow_add-i
 overflow_add-i c = omega arith

@@ -10,11 +10,11 @@ join_read-requires c =
     let r = load-list a.m.now a.b p.1 c.load-right.result c.load-right.ensures in
     (p.0, p.1, l.0, r.0, l.1, r.1)
 
-pub returns-in-Refused : goal.returns-in-Refused
-returns-in-Refused c = load-never c.args.m.now c.args.a c.requires.0 c.load-left.result c.load-left.ensures _ c.in-Refused.is
+pub returns-in_err-may : goal.returns-in_err-may
+returns-in_err-may c = load-never c.args.m.now c.args.a c.requires.0 c.load-left.result c.load-left.ensures _ c.in_err-may.was
 
-pub returns-in-Refused-too : goal.returns-in-Refused-too
-returns-in-Refused-too c = load-never c.args.m.now c.args.b c.requires.1 c.load-right.result c.load-right.ensures _ c.in-Refused-too.is
+pub returns-in_err-too : goal.returns-in_err-too
+returns-in_err-too c = load-never c.args.m.now c.args.b c.requires.1 c.load-right.result c.load-right.ensures _ c.in_err-too.was
 
-pub returns-in-Accepted-too : goal.returns-in-Accepted-too
-returns-in-Accepted-too c = c.join_read.ensures
+pub returns : goal.returns
+returns c = c.join_read.ensures

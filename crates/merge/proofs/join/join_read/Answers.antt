@@ -3,7 +3,7 @@ use mathlib.Core.Path.{ap, ◌∙◌}
 use mathlib.Core.List.{◌++◌}
 use native.Mathlib.Omega.{arith}
 use Rattle.plain.specs.Outcome.{mapped}
-use Rattle.answer.proofs.Opened.{verdict-never}
+use Rattle.answer.proofs.Opened.{never-refused}
 use Rattle.nodes.specs.Node.{children_of}
 use Rattle.merge.proofs.JoinedLists.{clean, list_inside, all-length, whole-list, whole-small, shares, left-share, right-share, shares-small, kids-merged, kids-shared}
 use Rattle.merge.proofs.join.join_read.Goals as goal
@@ -24,11 +24,8 @@ put_two-requires c =
     let s = shares-small (children_of a.m.now a.a) (children_of a.m.now a.b) a.left a.right p.2 p.3 p.4 p.5 c.distribute_with-two.result c.distribute_with-two.ensures in
     (list_inside a.m.now a.a p.0, list_inside a.m.now a.b p.1, s.0, s.1)
 
-pub returns-in-Refused : goal.returns-in-Refused
-returns-in-Refused c = verdict-never _ c.append-all.result.verdict c.append-all.ensures.answered c.in-Refused.is
-
-pub returns-in-Accepted : goal.returns-in-Accepted
-returns-in-Accepted c =
+pub returns-then-left-right-le-MAX_CHILDREN : goal.returns-then-left-right-le-MAX_CHILDREN
+returns-then-left-right-le-MAX_CHILDREN c =
     let a = c.args in
     let p = c.requires in
     let ls = children_of a.m.now a.a in
@@ -36,16 +33,16 @@ returns-in-Accepted c =
     kids-merged a.m.now a.a a.b (ls ++ rs) _ _ c.append-all.result.list (whole-list ls rs a.left a.right p.2 p.3 c.append-all.result.list c.append-all.ensures.list)
     (omega (arith, all-length ls rs a.left a.right p.2 p.3)) c.put_one.ensures
 
-pub returns-in-Refused-may : goal.returns-in-Refused-may
-returns-in-Refused-may c =
+pub returns-in_err-two : goal.returns-in_err-two
+returns-in_err-two c =
     let a = c.args in
     let p = c.requires in
-    verdict-never _ c.distribute_with-two.result.verdict
+    never-refused _ c.distribute_with-two.result.verdict tt
     (c.distribute_with-two.ensures.answered ∙ ap (mapped (λ x. tt)) (shares (children_of a.m.now a.a) (children_of a.m.now a.b) a.left a.right p.2 p.3 p.4 p.5 c.distribute_with-two.result c.distribute_with-two.ensures))
-    c.in-Refused-may.is
+    c.in_err-two.was
 
-pub returns-in-Accepted-may : goal.returns-in-Accepted-may
-returns-in-Accepted-may c =
+pub returns : goal.returns
+returns c =
     let a = c.args in
     let p = c.requires in
     let ls = children_of a.m.now a.a in

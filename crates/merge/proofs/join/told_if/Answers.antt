@@ -1,9 +1,10 @@
 -- `told_if` meets its contract: for each of the two verdicts.
+use Rattle.answer.proofs.Opened.{raised}
 use mathlib.Core.Path.{sym}
 use Rattle.merge.proofs.join.told_if.Goals as goal
 
-pub returns-in-Refused : goal.returns-in-Refused
-returns-in-Refused c = sym (rw c.in-Refused.is)
+pub returns-in_err-v : goal.returns-in_err-v
+returns-in_err-v c = rw (raised c.from_residual.ensures.1) (sym (rw c.in_err-v.was))
 
-pub returns-in-Accepted : goal.returns-in-Accepted
-returns-in-Accepted c = sym (rw c.in-Accepted.is)
+pub returns : goal.returns
+returns c = sym (rw c.in_ok-v.was)

@@ -1,20 +1,13 @@
 -- `chars::floor` meets its contract. The loop's invariant: the last boundary at or below the candidate is the one looked for.
-use mathlib.Core.Path.{refl, sym, ◌∙◌}
+use mathlib.Core.Path.{sym, ◌∙◌}
 use native.Mathlib.Omega.{arith}
 use borrow.Author.Tests.{not-true, not-false}
-use Rattle.plain.specs.Place.{is_boundary}
 use Rattle.plain.proofs.Search.{last-at, last-down}
 use Rattle.plain.proofs.Place.{floor-in, floor-out, no-boundary-pos}
 use Rattle.str_indices.proofs.chars.floor.Goals as goal
 
 pub returns-then-text-byte_idx : goal.returns-then-text-byte_idx
 returns-then-text-byte_idx c = (sym (floor-out _ _ c.if-text-byte_idx.true), omega arith)
-
-pub loop-i-init : goal.loop-i-init
-loop-i-init c = (omega arith, refl)
-
-pub is_boundary-requires : goal.is_boundary-requires
-is_boundary-requires c = tt
 
 pub overflow_sub-i : goal.overflow_sub-i
 overflow_sub-i c = no-boundary-pos _ _ (sym c.is_boundary.ensures ∙ not-true _ c.loop-i-test.true-raw)

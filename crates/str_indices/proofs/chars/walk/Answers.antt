@@ -8,26 +8,11 @@ use Rattle.plain.specs.Place.{start_chars, place_of}
 use Rattle.plain.proofs.Place.{place-stop, place-turn, place_none}
 use Rattle.str_indices.proofs.chars.walk.Goals as goal
 
-pub loop-i-init : goal.loop-i-init
-loop-i-init c = (omega arith, omega arith)
-
-pub bounds-text-i : goal.bounds-text-i
-bounds-text-i c = omega arith
-
-pub begun-k-requires : goal.begun-k-requires
-begun-k-requires c = tt
-
 pub returns-then-left-k : goal.returns-then-left-k
 returns-then-left-k c =
     let text = c.args.text.now in
     let i = c.loop-i.i in
     omega (arith, place-stop start_chars text i c.loop-i.left (omega arith) (omega arith))
-
-pub overflow_add-i : goal.overflow_add-i
-overflow_add-i c = omega arith
-
-pub loop-i-smaller : goal.loop-i-smaller
-loop-i-smaller c = omega arith
 
 pub loop-i-preserved : goal.loop-i-preserved
 loop-i-preserved c =

@@ -1,13 +1,10 @@
 -- `chars::walk` meets its contract. The loop's invariant: the bytes passed, and the place of what is left among those still to come,
 -- make the place looked for.
 use mathlib.Core.Path.{◌≡◌}
-use Prim.Native.Nat.{◌+◌, ◌-◌, ◌≤◌}
+use Prim.Native.Nat.{◌+◌, ◌≤◌}
 use lib.ListN.{length, drop}
 use Rattle.plain.specs.Place.{start_chars, place_of}
 use Rattle.str_indices.proofs.chars.walk.Given as goal
 
 abbrev pub invariant-loop-i : goal.invariant-loop-i
 invariant-loop-i l = (l.i ≤ length l.text) × (l.i + place_of start_chars (drop l.i l.text) l.left ≡ l.a + place_of start_chars (drop l.a l.text) l.n)
-
-abbrev pub decreases-loop-i : goal.decreases-loop-i
-decreases-loop-i l = length l.text - l.i

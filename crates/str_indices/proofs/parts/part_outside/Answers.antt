@@ -1,30 +1,12 @@
 -- `parts::part_outside` meets its contract. The loop's invariant: what has been counted, with what is still to come, is the count from a on.
 use mathlib.Core.Path.{◌≡◌, ap}
-use Prim.Native.Nat.{ℕ, ◌-◌}
+use Prim.Native.Nat.{ℕ}
 use native.Mathlib.Omega.{arith}
 use lib.ListN.{drop}
 use Rattle.plain.specs.Count.{count_if}
 use Rattle.str_indices.specs.Out.{is_out}
 use Rattle.plain.proofs.Count.{count_turn}
 use Rattle.str_indices.proofs.parts.part_outside.Goals as goal
-
-pub loop-i-init : goal.loop-i-init
-loop-i-init c = (omega arith, omega arith, omega arith, omega arith)
-
-pub bounds-text-i : goal.bounds-text-i
-bounds-text-i c = omega arith
-
-pub outside-n-requires : goal.outside-n-requires
-outside-n-requires c = tt
-
-pub overflow_add-n : goal.overflow_add-n
-overflow_add-n c = omega arith
-
-pub overflow_add-i : goal.overflow_add-i
-overflow_add-i c = omega arith
-
-pub loop-i-smaller : goal.loop-i-smaller
-loop-i-smaller c = omega arith
 
 pub loop-i-preserved : goal.loop-i-preserved
 loop-i-preserved c =

@@ -8,6 +8,3 @@ use Rattle.str_indices.proofs.parts.part_outside.Given as goal
 
 abbrev pub invariant-loop-i : goal.invariant-loop-i
 invariant-loop-i l = (l.a ≤ l.i) × (l.i ≤ l.e) × (l.n ≤ l.i - l.a) × (l.n + count_if (is_out l.lo l.hi) (drop l.i l.text) ≡ count_if (is_out l.lo l.hi) (drop l.a l.text))
-
-abbrev pub decreases-loop-i : goal.decreases-loop-i
-decreases-loop-i l = l.e - l.i

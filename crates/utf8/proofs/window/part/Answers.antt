@@ -1,6 +1,6 @@
 -- `window::part` meets its contract. The loop's invariant: what it promises, of the windows passed.
 use mathlib.Core.Path.{◌≡◌, subst}
-use Prim.Native.Nat.{ℕ, ◌-◌}
+use Prim.Native.Nat.{ℕ}
 use native.Mathlib.Omega.{arith}
 use Rattle.utf8.specs.Window.{Parted}
 use Rattle.utf8.proofs.Loops.{part_none, part-more}
@@ -8,15 +8,6 @@ use Rattle.utf8.proofs.window.part.Goals as goal
 
 pub loop-i-init : goal.loop-i-init
 loop-i-init c = (omega arith, omega arith, part_none _ _ _)
-
-pub window-w-requires : goal.window-w-requires
-window-w-requires c = (omega arith, omega arith)
-
-pub overflow_add-i : goal.overflow_add-i
-overflow_add-i c = omega arith
-
-pub loop-i-smaller : goal.loop-i-smaller
-loop-i-smaller c = omega arith
 
 pub loop-i-preserved : goal.loop-i-preserved
 loop-i-preserved c =
