@@ -46,7 +46,7 @@ TextMet t None = valid_utf8 t ≡ true → ⊥
 
 -- ── a node ──
 
--- a slot that can be a node of height h: a leaf or a list with its which is `least` or more
+-- a slot that can be a node of height h: a leaf or a list with its length, which is `least` or more
 pub record LeafShape (m : List ℕ) (least h s n : ℕ) : Type 0 where
   pub height : h ≡ 0
   pub leaf : is_leaf m s ≡ true
