@@ -18,6 +18,17 @@ for name in $(nm -g --defined-only "$library" | sed -n 's/.* T //p'); do
     }
 done
 
+# The library asks for memcpy and memset and nothing else.
+for name in $(nm -u "$library" | sed -n 's/^ *[Uw] //p' | sort -u); do
+    case $name in
+    memcpy | memset) ;;
+    *)
+        echo "test: the library asks for $name" >&2
+        exit 1
+        ;;
+    esac
+done
+
 mkdir -p target/bindings
 gcc -std=c99 -pedantic -Wall -Wextra -Werror -O2 bindings/c/test.c "$library" -o target/bindings/c_test
 target/bindings/c_test

@@ -17,6 +17,16 @@ use answer::{Answer, Refusal};
 use leaf_parts::{byte_of, from_byte};
 use note_head::{chars_of, own_part};
 
+// Lays a piece over the bytes from `at` on. std's `copy_from_slice` was tried: C would have to bring `memmove`.
+fn put(out: &mut [u8], at: usize, piece: &[u8])
+    requires { at + length piece.now ≤ length out.old }
+    ensures { out.new ≡ overlaid at piece.now out.old }
+{
+    for i in 0..piece.len() {
+        out[at + i] = piece[i];
+    }
+}
+
 // The part of a leaf from the byte i of the note on, no further than to the byte b.
 fn upto(m: &[u8], i: usize, b: usize) -> &[u8]
     requires { i ≤ b }
@@ -38,8 +48,7 @@ fn copy_bytes(m: &[u8], a: usize, b: usize, out: &mut [u8])
     let mut i = a;
     while i < b {
         let part = upto(m, i, b);
-        let at = i - a;
-        out[at..at + part.len()].copy_from_slice(part);
+        put(out, i - a, part);
         i += part.len();
     }
 }

@@ -1,11 +1,10 @@
 -- `copy_bytes` meets its contract. The loop's invariant: the bytes [a, i) lie at the front of the output.
 use mathlib.Core.Path.{◌≡◌, refl, ap, ◌∙◌}
-use Prim.Native.Nat.{ℕ, ◌+◌, ◌-◌, ◌≤◌}
+use Prim.Native.Nat.{ℕ, ◌-◌}
 use native.Mathlib.Omega.{arith}
-use borrow.Rule.Slice.PartMut.{put_mid}
 use lib.ListN.{length, take, drop}
 use Rattle.plain.specs.Chars.{encode}
-use Rattle.octets.proofs.Over.{overlaid-length, put-over}
+use Rattle.octets.proofs.Over.{overlaid-length}
 use Rattle.leaf_bytes.specs.Leaf.{laid}
 use Rattle.memory.specs.Formed.{note_of}
 use Rattle.copy_out.proofs.Copied.{steps, copied_none, copied_more}
@@ -18,6 +17,15 @@ loop-i-init c =
 
 pub upto-part-requires : goal.upto-part-requires
 upto-part-requires c = omega arith
+
+pub overflow_sub-i : goal.overflow_sub-i
+overflow_sub-i c = omega (arith, c.loop-i.invariant.0)
+
+pub put-requires : goal.put-requires
+put-requires c =
+    let a = c.args in
+    let st = steps a.m.now c.requires.0 c.loop-i.i a.b c.loop-i-test.true c.requires.2 _ c.upto-part.ensures in
+    omega (arith, st.room, c.loop-i.invariant.0, c.loop-i.invariant.3, c.requires.3)
 
 pub overflow_add-i : goal.overflow_add-i
 overflow_add-i c =
@@ -36,15 +44,11 @@ loop-i-preserved c =
     let a = c.args in
     let bs = encode (note_of a.m.now).text in
     let inv = c.loop-i.invariant in
-    let part = c.upto-part.result.now in
-    let at = c.loop-i.i - a.a in
-    let st = steps a.m.now c.requires.0 c.loop-i.i a.b c.loop-i-test.true c.requires.2 _ c.upto-part.ensures in
-    let fits : at + length part ≤ length c.loop-i.out = omega (arith, st.room, inv.0, inv.3, c.requires.3) in
-    let laid-there = ap (put_mid at _ c.loop-i.out) c.copy_from_slice.ensures.after ∙ put-over at (at + length part) c.loop-i.out part (omega arith) (omega arith) in (
+    let st = steps a.m.now c.requires.0 c.loop-i.i a.b c.loop-i-test.true c.requires.2 _ c.upto-part.ensures in (
       omega (arith, inv.0),
       st.room,
-      laid-there ∙ copied_more a.out.now c.loop-i.out bs part a.a c.loop-i.i inv.0 (omega (arith, st.room, c.requires.2)) inv.2 st.is,
-      ap length laid-there ∙ overlaid-length at part c.loop-i.out fits ∙ inv.3,
+      c.put.ensures ∙ copied_more a.out.now c.loop-i.out bs c.upto-part.result.now a.a c.loop-i.i inv.0 (omega (arith, st.room, c.requires.2)) inv.2 st.is,
+      ap length c.put.ensures ∙ overlaid-length (c.loop-i.i - a.a) c.upto-part.result.now c.loop-i.out (omega (arith, st.room, inv.0, inv.3, c.requires.3)) ∙ inv.3,
     )
 
 pub shape_of-out : goal.shape_of-out
